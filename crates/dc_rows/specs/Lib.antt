@@ -1,0 +1,5 @@
+pub mod Computed
+pub mod Facts
+pub mod Played
+pub mod Tabled
+pub mod Texts
