@@ -30,7 +30,11 @@ use Rattle.dc_base.specs.Script.{next_raise}
 use Rattle.dc_base.specs.Policies.{pick}
 use Rattle.dc_base.specs.States.{State, Core, Block, Mailbox, empty, order, ack, Script, Whereabouts, rest, on, time_on}
 use Rattle.dc_base.specs.Firing.{Fired, fire_all}
-use Rattle.dc_base.specs.Slices.{Halfway, stopped, stands, halfway, need_of, need, slice_end, after_served, serve, faulted, held_up, served, Served, without_ready, Need, need.Nothing, need.Console, need.Channel, need.Line, Outside, nothing_outside, console_outside, channel_outside, line_outside}
+use Rattle.dc_base.specs.declared.calls.Need.{Need}
+use Rattle.dc_base.specs.declared.calls.Need.TheVariants as needs
+use Rattle.dc_base.specs.ControlBlocks.{ControlBlock}
+use Rattle.dc_base.specs.Serving.{need, serve, faulted, held_up, served, Served, Outside, nothing_outside, console_outside, channel_outside, line_outside}
+use Rattle.dc_base.specs.Slices.{Halfway, stopped, stands, halfway, need_of, slice_end, after_served, without_ready}
 use Rattle.dc_base.specs.Changes.{Name, a_core, a_block, a_channel, a_line, a_mailbox, a_console, the_script, Change, block_becomes, mailbox_becomes, name_of}
 use Rattle.dc_base.specs.Turns.{Outcome, did, not_enabled, spent, Looked, Turn, ends, look_core, look_blocks, look_block, look_channel, look_line, look_mailbox, look_console, look_script, looked_at, outcome, looks}
 use Rattle.dc_base.specs.Steps.{as_console, as_channel, as_line, look_outside, outside_change, finish_slice, slice_picked, slice_from, slice_turn, next_due, idle_outcome, step_on, step_turn, is_runnable}
@@ -121,32 +125,32 @@ outcome_if false ns x y h k = k
 
 -- the object that a call needs
 abbrev needed : ℕ → Need → List Name → List Name
-needed b need.Nothing ns = ns
-needed b need.Console ns = a_console b ∷ ns
-needed b (need.Channel x) ns = a_channel x ∷ ns
-needed b (need.Line l) ns = a_line l ∷ ns
+needed b needs.Nothing ns = ns
+needed b needs.Console ns = a_console b ∷ ns
+needed b (needs.Channel x) ns = a_channel x.0 ∷ ns
+needed b (needs.Line l) ns = a_line l.0 ∷ ns
 
 needed_more : (b : ℕ) (w : Need) (ns : List Name) (n : Name) → Listed n ns → Listed n (needed b w ns)
-needed_more b need.Nothing ns n l = l
-needed_more b need.Console ns n l = inr l
-needed_more b (need.Channel x) ns n l = inr l
-needed_more b (need.Line x) ns n l = inr l
+needed_more b needs.Nothing ns n l = l
+needed_more b needs.Console ns n l = inr l
+needed_more b (needs.Channel x) ns n l = inr l
+needed_more b (needs.Line x) ns n l = inr l
 
 outside_covers : (ns : List Name) (b : ℕ) (w : Need) (next : Outside → Turn) → ((out : Outside) → Covers (needed b w ns) (next out)) → Covers ns (look_outside b w next)
 unfolding look_outside
-outside_covers ns b need.Nothing next h = h nothing_outside
-outside_covers ns b need.Console next h = λ o. h (as_console o)
-outside_covers ns b (need.Channel x) next h = λ o. h (as_channel o)
-outside_covers ns b (need.Line l) next h = λ o. h (as_line o)
+outside_covers ns b needs.Nothing next h = h nothing_outside
+outside_covers ns b needs.Console next h = λ o. h (as_console o)
+outside_covers ns b (needs.Channel x) next h = λ o. h (as_channel o)
+outside_covers ns b (needs.Line l) next h = λ o. h (as_line o)
 
 outside_listed : (b : ℕ) (w : Need) (out : Outside) (ns : List Name) → AllListed (outside_change b w out) (needed b w ns)
 unfolding outside_change
-outside_listed b need.Console (console_outside ws) ns = (inl refl, tt)
-outside_listed b (need.Channel x) (channel_outside r) ns = (inl refl, tt)
-outside_listed b (need.Line l) (line_outside w) ns = (inl refl, tt)
+outside_listed b needs.Console (console_outside ws) ns = (inl refl, tt)
+outside_listed b (needs.Channel x) (channel_outside r) ns = (inl refl, tt)
+outside_listed b (needs.Line l) (line_outside w) ns = (inl refl, tt)
 outside_listed b w out ns = tt
 
-answered_need : (x : Block) (d ran : ℕ) (o : Op) (w : Need) (out : Outside) (a : Served) → (after_served x d ran o w out a).need ≡ w
+answered_need : (x : ControlBlock) (d ran : ℕ) (o : Op) (w : Need) (out : Outside) (a : Served) → (after_served x d ran o w out a).need ≡ w
 answered_need x d ran o w out (faulted y) = refl
 answered_need x d ran o w out (held_up v) = refl
 answered_need x d ran o w out (served v p new) = refl
@@ -157,9 +161,9 @@ end_need c n v d (stopped x ran e) out = refl
 end_need c n v d (stands x ran o call) out = answered_need x d ran o (need call) out (serve c n call out)
 
 module _ (c : ℕ) (k : Core) where
-  slice_covers : (b : ℕ) (v : Version) (d count : ℕ) (ns : List Name) → Listed (a_core c) ns → Listed (a_block b) ns → (h : Option Halfway) → Covers ns (finish_slice c k b v d count h)
-  slice_covers b v d count ns hc hb None = tt
-  slice_covers b v d count ns hc hb (Some h) =
+  slice_covers : (b : ℕ) (x : Block) (v : Version) (d count : ℕ) (ns : List Name) → Listed (a_core c) ns → Listed (a_block b) ns → (h : Option Halfway) → Covers ns (finish_slice c k b x v d count h)
+  slice_covers b x v d count ns hc hb None = tt
+  slice_covers b x v d count ns hc hb (Some h) =
       outside_covers ns b (need_of h) _ (λ out. (
         needed_more b (need_of h) ns _ hc,
         (
@@ -169,13 +173,13 @@ module _ (c : ℕ) (k : Core) where
         ),
       ))
 
-  picked_covers : (b time : ℕ) (v : Version) (f : Fired) (ns : List Name) → Listed (a_core c) ns → Listed (a_block b) ns → (o : Option ℕ) → Covers ns (slice_picked c k b time v f o)
-  picked_covers b time v f ns hc hb None = (hc, (hb, tt))
-  picked_covers b time v f ns hc hb (Some d) = slice_covers b v d f.count ns hc hb (halfway k.settings.quantum time (without_ready d f.block) d)
+  picked_covers : (b : ℕ) (x : Block) (time : ℕ) (v : Version) (f : Fired) (ns : List Name) → Listed (a_core c) ns → Listed (a_block b) ns → (o : Option ℕ) → Covers ns (slice_picked c k b x time v f o)
+  picked_covers b x time v f ns hc hb None = (hc, (hb, tt))
+  picked_covers b x time v f ns hc hb (Some d) = slice_covers b x v d f.count ns hc hb (halfway k.settings.quantum time (without_ready d f.control) d)
 
   from_covers : (b : ℕ) (x : Block) (ns : List Name) → Listed (a_core c) ns → Listed (a_block b) ns → (w : Whereabouts) → Covers ns (slice_from c k b x w)
   from_covers b x ns hc hb (rest kept) = tt
-  from_covers b x ns hc hb (on d offset v) = picked_covers b _ v _ ns hc hb (pick v (fire_all (time_on k.clock offset) x).block.dues (fire_all (time_on k.clock offset) x).block.ready)
+  from_covers b x ns hc hb (on d offset v) = picked_covers b x _ v _ ns hc hb (pick v (fire_all (time_on k.clock offset) x.control).control.dues (fire_all (time_on k.clock offset) x.control).control.ready)
 
   turn_covers : (b : ℕ) (ns : List Name) → Listed (a_core c) ns → Listed (a_block b) ns → (o : Option Block) → Covers ns (slice_turn c k b o)
   unfolding slice_turn
@@ -229,7 +233,7 @@ module _ (c : ℕ) (k : Core) where
 
   wake_covers_in : (b d : ℕ) (ns : List Name) → Listed (a_core c) ns → Listed (a_block b) ns → (o : Option Block) → Covers ns (wake_in c k b d o)
   wake_covers_in b d ns hc hb None = tt
-  wake_covers_in b d ns hc hb (Some x) = waiting_covers b d x ns hc hb (slice_get x.states d)
+  wake_covers_in b d ns hc hb (Some x) = waiting_covers b d x ns hc hb (slice_get x.control.states d)
 
   wake_covers : (b d : ℕ) (ns : List Name) → Listed (a_core c) ns → Covers ns (wake_turn c k b d)
   wake_covers b d ns hc =
