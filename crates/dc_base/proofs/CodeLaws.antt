@@ -2,7 +2,7 @@
 use Rattle.std.proofs.Common.{◌≡◌, ℕ, Bool, true, false, Option, Some, None, refl, ap, ◌∙◌, sym, arith}
 use Rattle.std.specs.Prelude.{◌==◌, ◌&&◌, if◌then◌else◌}
 use Rattle.dc_base.specs.declared.instructions.Instr.{Instr}
-use Rattle.dc_base.specs.Instructions.{encode, is_proper, instr_at, if_word, decode}
+use Rattle.dc_base.specs.Instructions.{encode, is_proper, if_word, decode}
 
 numbers : (n m : ℕ) → n == m ≡ true → n ≡ m
 numbers n m h = grind arith

@@ -1,11 +1,10 @@
 -- Openings: the states from which a run may begin, each with the one state of blocks that it stands for.
 use Rattle.std.specs.Prelude.{◌≡◌, ℕ, List, [], Bool, map, is_some}
-use Rattle.dc_base.specs.declared.commands.ScriptLine.{ScriptLine}
 use Rattle.dc_base.specs.declared.entries.Entry.{Entry}
 use Rattle.dc_base.specs.Words.{Each}
 use Rattle.dc_base.specs.Script.{next_command}
-use Rattle.dc_base.specs.Channels.{Ring, Channel}
-use Rattle.dc_base.specs.Lines.{Wire, Line}
+use Rattle.dc_base.specs.Channels.{Ring}
+use Rattle.dc_base.specs.Lines.{Wire}
 use Rattle.dc_base.specs.Blocks as blocks
 use Rattle.dc_base.specs.Blocks.{Blocks}
 use Rattle.dc_base.specs.States.{State, Core, Block, Script, empty, time_of, idle_wire}

@@ -1,5 +1,5 @@
 -- Valid images, and the scripts and schedules that suit one.
-use Rattle.std.specs.Prelude.{◌≡◌, ◌≢◌, ℕ, ◌+◌, ◌<◌, ◌≤◌, ◌^◌, List, Bool, IsTrue, IsSome, IfSome, Option, Some, slice_get, length, ⊤}
+use Rattle.std.specs.Prelude.{◌≡◌, ◌≢◌, ℕ, ◌+◌, ◌<◌, ◌≤◌, ◌^◌, List, Bool, IsTrue, IsSome, IfSome, Some, slice_get, length, ⊤}
 use Rattle.std.specs.List.{list_any}
 use Rattle.dc_base.specs.declared.images.Image.{Image}
 use Rattle.dc_base.specs.declared.images.CoreImage.{CoreImage}

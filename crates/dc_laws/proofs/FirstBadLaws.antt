@@ -1,13 +1,12 @@
 -- The first bad entry is the one with which a journal stops being a run.
-use Rattle.std.proofs.Common.{◌≡◌, ℕ, zero, suc, ◌+◌, ◌<◌, List, [], ◌∷◌, true, false, Option, Some, None, refl, sym, ap, ◌∙◌, subst, arith, add-one, length, take}
+use Rattle.std.proofs.Common.{◌≡◌, ℕ, suc, ◌+◌, ◌<◌, List, [], ◌∷◌, true, false, Option, Some, None, refl, ap, ◌∙◌, subst, arith, add-one, length, take}
 use Rattle.std.specs.Prelude.{is_some}
 use Rattle.std.specs.Option.{option_map_or}
 use Rattle.dc_base.specs.declared.images.Image.{Image}
 use Rattle.dc_base.specs.declared.commands.ScriptLine.{ScriptLine}
 use Rattle.dc_base.specs.declared.entries.Entry.{Entry}
 use Rattle.dc_base.specs.Words.{bind}
-use Rattle.dc_base.specs.Runs.{Terms, terms_of, Seen, seen_start, run_step, run_from, run, run_of, bad_from, first_bad}
-
+use Rattle.dc_base.specs.Runs.{Terms, terms_of, Seen, seen_start, run_step, run_from, run, bad_from, first_bad}
 use Rattle.dc_laws.specs.FirstBad.{IsFirstBad}
 
 module _ (terms : Terms) (lines : List ScriptLine) where
@@ -23,19 +22,25 @@ module _ (terms : Terms) (lines : List ScriptLine) where
   found_by : (base ticket : ℕ) (s : Seen) (e : Entry) (es : List Entry) → ((n : Seen) → bad_from terms lines (base + 1) n es ≡ Some ticket → Found (base + 1) ticket n es) →
       (o : Option Seen) → run_step terms lines s e ≡ o → option_map_or (λ n. bad_from terms lines (base + 1) n es) o (Some base) ≡ Some ticket → Found base ticket s (e ∷ es)
   found_by base ticket s e es more None oe g =
-      let same : base ≡ ticket = cc in
-      (0, omega (arith, same), record {
-        within = omega arith;
-        before = refl;
-        bad = ap (λ o. is_some (bind o (λ n. run_from terms lines n (take 0 es)))) oe;
-      })
+      let same : base ≡ ticket = cc in (
+        0,
+        omega (arith, same),
+        record {
+          within = omega arith;
+          before = refl;
+          bad = ap (λ o. is_some (bind o (λ n. run_from terms lines n (take 0 es)))) oe;
+        },
+      )
   found_by base ticket s e es more (Some n) oe g =
-      let r = more n g in
-      (suc r.0, omega (arith, r.1), record {
-        within = omega (arith, r.2.within);
-        before = ap (λ o. is_some (bind o (λ m. run_from terms lines m (take r.0 es)))) oe ∙ r.2.before;
-        bad = ap (λ o. is_some (bind o (λ m. run_from terms lines m (take (suc r.0) es)))) oe ∙ r.2.bad;
-      })
+      let r = more n g in (
+        suc r.0,
+        omega (arith, r.1),
+        record {
+          within = omega (arith, r.2.within);
+          before = ap (λ o. is_some (bind o (λ m. run_from terms lines m (take r.0 es)))) oe ∙ r.2.before;
+          bad = ap (λ o. is_some (bind o (λ m. run_from terms lines m (take (suc r.0) es)))) oe ∙ r.2.bad;
+        },
+      )
 
   pub bad_from-found : (base ticket : ℕ) (s : Seen) (es : List Entry) → bad_from terms lines base s es ≡ Some ticket → Found base ticket s es
   bad_from-found base ticket s [] g = cc

@@ -15,31 +15,26 @@ ghost use Rattle.dc_laws.specs.FirstBad.{IsFirstBad};
 /// An instruction with proper fields is that of its word.
 pub fn words_are_decoded()
     ensures { (i : Instr) → IsTrue (is_proper i) → decode (encode i) ≡ Some i }
-{
-}
+{}
 
 /// A word that has an instruction is the word of that instruction, whose fields are proper.
 pub fn instructions_are_encoded()
     ensures word { (w : ℕ) (i : Instr) → decode w ≡ Some i → encode i ≡ w }
     ensures proper { (w : ℕ) (i : Instr) → decode w ≡ Some i → IsTrue (is_proper i) }
-{
-}
+{}
 
 /// Each prefix of a run is a run.
 pub fn prefixes_are_runs()
     ensures { (image : Image) (script : List ScriptLine) (journal more : List Entry) → IsTrue (run_of image script (journal ++ more)) → IsTrue (run_of image script journal) }
-{
-}
+{}
 
 /// The events of a run, with cores, kernels and handovers struck out, lead the machine of blocks from the image to the state that the run comes to.
 pub fn runs_are_struck_out()
     ensures { (image : Image) (script : List ScriptLine) (journal : List Entry) (seen : Seen) → run image script journal ≡ Some seen → blocks_run image (struck image journal) ≡ Some seen.blocks }
-{
-}
+{}
 
 /// A journal is a run exactly where it has no first bad entry, and the first bad entry is the one with which it stops being a run.
 pub fn first_bad_is_named()
     ensures none { (image : Image) (script : List ScriptLine) (journal : List Entry) → (first_bad image script journal ≡ None) ↔ IsTrue (run_of image script journal) }
     ensures some { (image : Image) (script : List ScriptLine) (journal : List Entry) (ticket : ℕ) → first_bad image script journal ≡ Some ticket → IsFirstBad image script journal ticket }
-{
-}
+{}

@@ -18,19 +18,13 @@ use Rattle.std.proofs.Common.{subst, inr, arith, zero, suc, ◌<◌}
 use Rattle.std.specs.Prelude.{slice_get}
 use Rattle.dc_base.specs.Words.{Each}
 use Rattle.dc_base.specs.States.{State, Core, Block, Settings, empty, ack, on}
-use Rattle.dc_base.specs.States.{order as ordered}
-use Rattle.dc_base.specs.Blocks.{Blocks, live}
-use Rattle.dc_base.specs.Lines.{pending, merged}
 use Rattle.dc_base.specs.Parts.{whole_memory}
-use Rattle.dc_base.specs.Capabilities.{Seat}
-use Rattle.dc_base.specs.Effects.{Context}
-use Rattle.dc_base.specs.Lines.{Wire}
 use Rattle.dc_base.specs.Boot.{refusal}
 use Rattle.dc_base.specs.Progress.{command_at}
 use Rattle.dc_base.specs.declared.commands.Command.{Command}
 use Rattle.dc_base.specs.declared.interrupts.Timer.{Timer}
 use Rattle.dc_base.specs.Placed.{IsPlaced, AreShares}
-use Rattle.dc_base.specs.Progress.{MailboxesFollow, PostsFit, IsRegistered}
+use Rattle.dc_base.specs.Progress.{MailboxesFollow, IsRegistered}
 use Rattle.dc_base.specs.Bounded.{IsClocked, DuesWithin, DeadlinesWithin, NumbersWithin}
 use Rattle.std.specs.Prelude.{pos, length}
 

@@ -21,7 +21,7 @@ use Rattle.dc_base.specs.declared.dispatchers.Wait.TheVariants as wt
 use Rattle.std.proofs.Common.{subst, inr, arith, zero, suc, ◌<◌}
 use Rattle.std.specs.Prelude.{slice_get}
 use Rattle.dc_base.specs.Words.{Each}
-use Rattle.dc_base.specs.States.{State, Core, Block, Settings, empty, ack, rest, place_on}
+use Rattle.dc_base.specs.States.{State, Core, Block, Settings, empty, ack, rest}
 use Rattle.dc_base.specs.States.{order as ordered}
 use Rattle.dc_base.specs.declared.commands.Order.{Order}
 use Rattle.dc_base.specs.Blocks.{Blocks, live}

@@ -1,5 +1,5 @@
 -- An entry and what it touches, by the numbers of objects.
-use Rattle.std.proofs.Common.{◌≡◌, ◌⊎◌, ℕ, zero, suc, ◌<◌, ◌≤◌, List, [], ◌∷◌, Bool, true, false, Option, Some, None, refl, sym, ap, ◌∙◌, subst, map, inl, inr, arith, length}
+use Rattle.std.proofs.Common.{◌≡◌, ℕ, zero, suc, List, [], ◌∷◌, Bool, true, false, Option, Some, None, refl, sym, ap, ◌∙◌, subst, map, inl, inr, arith, length}
 use Rattle.std.specs.Prelude.{slice_get, nat_lt, ◌-◌}
 use Rattle.std.specs.Option.{option_map}
 use Rattle.dc_base.specs.declared.entries.Entry.{Entry}
