@@ -285,7 +285,7 @@ one_block l zero (suc c) x y e f g h = absurd (nothing_at c y f)
 one_block l (suc b) c x y e f g h = absurd (nothing_at b x e)
 
 kept_lines : KeepsLines s
-kept_lines = record { one = one_block; none = each_cons _ wire0 [] (λ h. absurd (none_true h)) (each_nil _); rights = each_cons _ wire0 [] tt (each_nil _) }
+kept_lines = record { one = one_block; none = each_cons _ wire0 [] (λ h. absurd (none_true h)) (each_nil _); rights = each_cons _ wire0 [] tt (each_nil _); pending = each_cons _ wire0 [] (omega arith) (each_nil _) }
 
 cap_order : (i j : ℕ) (h k : Seat) → i < j → slice_get block0.control.parts.caps i ≡ Some h → slice_get block0.control.parts.caps j ≡ Some k → h.slot < k.slot
 cap_order zero zero h k lt e f = absurd (omega (arith, lt))

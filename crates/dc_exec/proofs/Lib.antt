@@ -1,0 +1,4 @@
+mod Changed
+mod Storing
+mod Standing
+mod Foreseen

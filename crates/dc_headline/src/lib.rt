@@ -1,0 +1,43 @@
+//! The theorem over the definitions: every run of the machine with cores, with cores, kernels, slots and handovers struck out, is a run of the machine of blocks.
+#![tactic(auto)]
+
+ghost use Rattle.std.specs.Prelude.{◌≡◌, ℕ, List, Some, IsTrue};
+ghost use Rattle.dc_base.specs.declared.images.Image.{Image};
+ghost use Rattle.dc_base.specs.declared.actions.Actor.{Actor};
+ghost use Rattle.dc_base.specs.declared.actions.Action.{Action};
+ghost use Rattle.dc_base.specs.declared.commands.ScriptLine.{ScriptLine};
+ghost use Rattle.dc_base.specs.States.{State, settings_of, core_start};
+ghost use Rattle.dc_base.specs.CoreRuns.{core_run, core_run_from};
+ghost use Rattle.dc_base.specs.StandsFor.{StandsFor};
+ghost use Rattle.dc_base.specs.Runs.{Seen, run};
+ghost use Rattle.dc_base.specs.Report.{report_lines};
+ghost use Rattle.dc_base.specs.Headline.{IsReportedRun};
+ghost use Rattle.dc_base.specs.Openings.{IsOpening, run_of_opening};
+ghost use Rattle.dc_base.specs.Sound.{IsSound};
+ghost use Rattle.dc_base.specs.Valid.{IsValid, IsValidScript};
+
+use dc_refine::{openings_run, runs_are_reported};
+use dc_sound::{sound_keeps, the_start_is_sound};
+
+/// For every valid image and script and every schedule, the journal is a run of the image and the script, and the report shows the last state of that run, each block once with its holder;
+/// the last state is sound, and stands for the last blocks of the run.
+pub fn every_run_is_reported()
+    ensures reported { (image : Image) (script : List ScriptLine) (schedule : List (Actor × Action)) → IsValid image → IsValidScript (settings_of image) script →
+        IsReportedRun image script (core_run image script schedule).journal (report_lines (core_run image script schedule).state) }
+    ensures stands { (image : Image) (script : List ScriptLine) (schedule : List (Actor × Action)) → IsValid image → IsValidScript (settings_of image) script →
+        (seen : Seen) → run image script (core_run image script schedule).journal ≡ Some seen → StandsFor (core_run image script schedule).state seen.blocks }
+    ensures sound { (image : Image) (script : List ScriptLine) (schedule : List (Actor × Action)) → IsValid image → IsValidScript (settings_of image) script →
+        IsSound (core_run image script schedule).state }
+{
+    the_start_is_sound();
+    sound_keeps();
+    runs_are_reported();
+}
+
+/// The journal of every schedule from an opening is a run from there.
+pub fn every_run_of_an_opening_is_one()
+    ensures { (s : State) (schedule : List (Actor × Action)) → IsOpening s → IsTrue (run_of_opening s (core_run_from s schedule).journal) }
+{
+    sound_keeps();
+    openings_run();
+}

@@ -1,0 +1,14 @@
+mod Digits
+mod ArrayLaws
+mod OtherWords
+mod Whole
+mod Chains
+mod BuiltLaws
+mod RuleLaws
+mod CapLaws
+mod ProgramBounds
+mod DispLaws
+mod BlockLaws
+mod ValidParts
+mod ValidLaws
+mod ImageRows

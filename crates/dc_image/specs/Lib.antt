@@ -1,0 +1,8 @@
+pub mod KeyText
+pub mod Valid
+pub mod Faults
+pub mod ImageKeys
+pub mod CapsOf
+pub mod DispsOf
+pub mod BlocksOf
+pub mod ImageOf

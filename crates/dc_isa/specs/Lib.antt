@@ -1,0 +1,5 @@
+pub mod Operations
+pub mod Lines
+pub mod Statements
+pub mod Labels
+pub mod Assembly

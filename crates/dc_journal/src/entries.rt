@@ -1,0 +1,45 @@
+//! The line of an entry.
+
+ghost use Rattle.std.specs.Prelude.{◌≡◌, ◌+◌, ◌≤◌, ◌<◌, IsTrue};
+ghost use Rattle.arrayvec.specs.ArrayString.{array_string_len};
+ghost use Rattle.dc_base.specs.TextWords.{add_words};
+ghost use Rattle.dc_base.specs.EntryText.{entry_text, actor_words};
+ghost use Rattle.dc_base.specs.EntryRanges.{has_line};
+
+use crate::whats::{push_core_what, push_script_what};
+use dc_base::actions::Actor;
+use dc_base::entries::Entry;
+use dc_base::numbers::Ticket;
+use dc_text::{Line, push_u32, push_u64, push_word};
+
+/// The line of an entry, without its newline, for which it has room.
+#[tactic(auto, unfolding(dc_base::specs::EntryText::entry_text, dc_base::specs::EntryRanges::has_line))]
+pub fn entry_line(ticket: Ticket, entry: &Entry) -> Line
+    requires { IsTrue (has_line entry.now) }
+    ensures text { result.bytes ≡ entry_text ticket.0 entry.now }
+    ensures room { array_string_len result < 256 }
+{
+    let mut line = Line::new();
+    push_u64(&mut line, ticket.0);
+    push_actor(&mut line, entry.actor);
+    match entry.actor {
+        Actor::Core(_) => push_core_what(&mut line, &entry.what),
+        Actor::Script => push_script_what(&mut line, &entry.what),
+    }
+    line
+}
+
+/// Adds who made an entry.
+fn push_actor(line: &mut Line, actor: Actor)
+    requires { array_string_len line.old ≤ 100 }
+    ensures words { line.new.bytes ≡ add_words line.old.bytes (actor_words actor) }
+    ensures len { array_string_len line.new ≤ array_string_len line.old + 16 }
+{
+    match actor {
+        Actor::Core(core) => {
+            push_word(line, "core");
+            push_u32(line, core.0);
+        }
+        Actor::Script => push_word(line, "script"),
+    }
+}

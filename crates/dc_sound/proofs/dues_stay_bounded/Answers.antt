@@ -1,0 +1,6 @@
+use Rattle.dc_sound.proofs.EntryKinds.{core_step-kind}
+use Rattle.dc_sound.proofs.DuesKept.{dues_kept}
+use Rattle.dc_sound.proofs.dues_stay_bounded.Goals as goal
+
+pub returns : goal.returns
+returns c = λ s polls who a changes e g p d. dues_kept s changes e (core_step-kind s polls who a changes e g) p d

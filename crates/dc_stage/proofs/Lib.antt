@@ -1,0 +1,15 @@
+pub mod Numbers
+pub mod Logs
+pub mod Views
+pub mod Splits
+pub mod Commits
+pub mod Takes
+pub mod Gives
+pub mod Looks
+pub mod Joins
+pub mod Passes
+pub mod Rotations
+pub mod Opens
+pub mod Closes
+pub mod Slots
+pub mod Tallies

@@ -1,0 +1,11 @@
+pub mod Numbers
+pub mod History
+pub mod Pasts
+pub mod Views
+pub mod Rule
+pub mod Steps
+pub mod Passes
+pub mod Carried
+pub mod Calls
+pub mod Slots
+pub mod Tally

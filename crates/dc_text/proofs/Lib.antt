@@ -1,0 +1,5 @@
+pub mod Digits
+pub mod Commas
+mod Numbers
+mod Scanning
+mod Texts

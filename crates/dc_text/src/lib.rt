@@ -1,0 +1,12 @@
+//! Lines of texts: the words and numbers in them, and lines made of words and numbers.
+#![tactic(auto)]
+
+mod lines;
+mod lists;
+mod reading;
+#[cfg(test)]
+mod tests;
+
+pub use lines::{Line, push_number, push_u32, push_u64, push_word};
+pub use lists::{Numbered, push_list};
+pub use reading::{number, words};
