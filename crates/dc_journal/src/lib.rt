@@ -1,9 +1,11 @@
-//! The lines of journals and of reports, journals read, and logs merged.
+//! The lines of journals and of reports.
 #![tactic(auto)]
 
 mod entries;
 mod names;
 mod reports;
+#[cfg(test)]
+mod tests;
 mod whats;
 
 pub use entries::entry_line;
