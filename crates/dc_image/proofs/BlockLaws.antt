@@ -7,19 +7,20 @@ use Rattle.toml.specs.Data.{Items}
 use Rattle.dc_base.specs.declared.numbers.CoreNo.{CoreNo}
 use Rattle.dc_base.specs.declared.images.CoreImage.{CoreImage}
 use Rattle.dc_base.specs.declared.images.BlockImage.{BlockImage}
-use Rattle.dc_image.specs.Valid.{Within, AreWords, IsOn}
+use Rattle.dc_base.specs.KeptByBlocks.{AreWords}
+use Rattle.dc_base.specs.Valid.{IsOnAtStart}
 use Rattle.dc_image.specs.ImageKeys.{Table, optional, maybe, number_where, number_within, any_number, item_count, each_within, table_by}
 use Rattle.dc_image.specs.DispsOf.{disps_in}
 use Rattle.dc_image.specs.BlocksOf.{Machine, is_on, is_home_of, home_in, around, data_in, block_in, blocks_in}
 use Rattle.dc_image.proofs.Chains.{chained}
 use Rattle.dc_image.proofs.BuiltLaws.{items_built}
-use Rattle.dc_image.proofs.RuleLaws.{Has, IsList, optional_has, maybe_has, where_has, within_has, each_has, table_has, counted}
+use Rattle.dc_image.proofs.RuleLaws.{Within, Has, IsList, optional_has, maybe_has, where_has, within_has, each_has, table_has, counted}
 use Rattle.dc_image.proofs.CapLaws.{not_true}
 use Rattle.dc_image.proofs.DispLaws.{DispLaw, any_has, disps_have, none_built}
 
 -- a core that is on, and home of no block before
 pub record HomeLaw (cores : List CoreImage) (before : List BlockImage) (c : CoreNo) : Type 0 where
-  pub on : IsOn cores c
+  pub on : IsOnAtStart cores c
   pub free : list_any (is_home_of c.0) before ≡ false
 
 pub record BlockLaw (m : Machine) (number : ℕ) (before : List BlockImage) (x : BlockImage) : Type 0 where
@@ -30,7 +31,7 @@ pub record BlockLaw (m : Machine) (number : ℕ) (before : List BlockImage) (x :
   pub signals : x.signals ≤ 16
   pub disps : IsList 1 16 (λ earlier d. DispLaw (around m number before x.ports x.signals) d) x.disps
 
-core_on : (cores : List CoreImage) (c : CoreNo) (o : Option CoreImage) → slice_get cores c.0 ≡ o → is_on o ≡ true → IsOn cores c
+core_on : (cores : List CoreImage) (c : CoreNo) (o : Option CoreImage) → slice_get cores c.0 ≡ o → is_on o ≡ true → IsOnAtStart cores c
 core_on cores c None e h = cc
 core_on cores c (Some k) e h = (k, e, h)
 

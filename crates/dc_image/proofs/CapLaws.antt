@@ -11,11 +11,11 @@ use Rattle.dc_base.specs.declared.images.CapImage.{CapImage}
 use Rattle.dc_base.specs.declared.images.ChanImage.{ChanImage}
 use Rattle.dc_image.specs.declared.kinds.KindName.{KindName}
 use Rattle.dc_image.specs.declared.kinds.KindName.TheVariants as name
-use Rattle.dc_image.specs.Valid.{Within, is_given}
+use Rattle.dc_base.specs.Valid.{is_given_line}
 use Rattle.dc_image.specs.ImageKeys.{Table, required, optional, number_where, number_within, number_below, word_where}
 use Rattle.dc_image.specs.CapsOf.{Around, kind_named, range_in, is_end, end_in, line_in, kind_in, has_slot, slot_in, cap_in}
 use Rattle.dc_image.proofs.Chains.{chained}
-use Rattle.dc_image.proofs.RuleLaws.{required_has, optional_has, where_has, within_has, below_has}
+use Rattle.dc_image.proofs.RuleLaws.{Within, required_has, optional_has, where_has, within_has, below_has}
 
 -- the channel of this number has the block at this end
 abbrev pub IsEnd : Around → (ChanImage → BlockNo) → ℕ → Type 0
@@ -29,7 +29,7 @@ KindLaw a (kind.Port p) = p.0 < a.ports
 KindLaw a (kind.Signal i) = i.0 < a.signals
 KindLaw a (kind.SendEnd y) = IsEnd a (λ r. r.from) y.0
 KindLaw a (kind.RecvEnd y) = IsEnd a (λ r. r.to) y.0
-KindLaw a (kind.Line l) = (l.0 < a.lines) × (list_any (is_given l.0) a.before ≡ false)
+KindLaw a (kind.Line l) = (l.0 < a.lines) × (list_any (is_given_line l.0) a.before ≡ false)
 
 pub record CapLaw (a : Around) (before : List CapImage) (c : CapImage) : Type 0 where
   pub slot : c.slot < 16
@@ -68,10 +68,10 @@ end_has a end t n e =
     let test = λ (m : ℕ). is_end end a.block (slice_get a.channels m) in
     found_end a end n (slice_get a.channels n) refl (required_has (λ m. test m ≡ true) (number_where test) (where_has test) t (codes "number") n e)
 
-line_has : (a : Around) (t : Table) (n : ℕ) → line_in a t ≡ Ok n → (n < a.lines) × (list_any (is_given n) a.before ≡ false)
+line_has : (a : Around) (t : Table) (n : ℕ) → line_in a t ≡ Ok n → (n < a.lines) × (list_any (is_given_line n) a.before ≡ false)
 line_has a t n e =
-    let test = λ (m : ℕ). nat_lt m a.lines && not (list_any (is_given m) a.before) in
-    below_and_not a.lines (list_any (is_given n) a.before) n (required_has (λ m. test m ≡ true) (number_where test) (where_has test) t (codes "number") n e)
+    let test = λ (m : ℕ). nat_lt m a.lines && not (list_any (is_given_line m) a.before) in
+    below_and_not a.lines (list_any (is_given_line n) a.before) n (required_has (λ m. test m ≡ true) (number_where test) (where_has test) t (codes "number") n e)
 
 number_has : (limit : ℕ) (t : Table) (n : ℕ) → required t (codes "number") (number_below limit) ≡ Ok n → n < limit
 number_has limit t n e = required_has (λ m. m < limit) (number_below limit) (below_has limit) t (codes "number") n e

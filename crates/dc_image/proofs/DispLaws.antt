@@ -7,13 +7,13 @@ use Rattle.dc_base.specs.declared.faults.AsmFault.TheVariants as asm
 use Rattle.dc_base.specs.declared.images.DispImage.{DispImage}
 use Rattle.dc_base.specs.declared.images.CapImage.{CapImage}
 use Rattle.dc_base.specs.ProgramText.{program_of}
-use Rattle.dc_image.specs.Valid.{Within, AreWords}
+use Rattle.dc_base.specs.KeptByBlocks.{AreWords}
 use Rattle.dc_image.specs.ImageKeys.{Table, required, optional, number_within, any_number, each_within, table_by}
 use Rattle.dc_image.specs.CapsOf.{Around, cap_in}
 use Rattle.dc_image.specs.DispsOf.{words_in, code_in, caps_in, disp_in, disps_in}
 use Rattle.dc_image.proofs.Chains.{chained}
 use Rattle.dc_image.proofs.BuiltLaws.{IsBuilt}
-use Rattle.dc_image.proofs.RuleLaws.{Has, IsList, required_has, optional_has, within_has, each_has, table_has}
+use Rattle.dc_image.proofs.RuleLaws.{Within, Has, IsList, required_has, optional_has, within_has, each_has, table_has}
 use Rattle.dc_image.proofs.CapLaws.{CapLaw, cap_has}
 use Rattle.dc_image.proofs.ProgramBounds.{program_has}
 

@@ -11,7 +11,7 @@ use Rattle.dc_base.specs.Results.{◌>>=◌, fault_as}
 use Rattle.dc_base.specs.TextWords.{number_of}
 use Rattle.dc_base.specs.Operations.{Operand, register_a, register_b, slot_a, slot_b, immediate, target, grant, made, whole, Operation, operations, weight}
 use Rattle.dc_base.specs.ProgramText.{Label, Statement, nothing, label, instruction, statements, is_label_name, labels_from, place_of, lettered, if_passes, number, if_defined, is_grant, is_16_bits, operand, operands_sum, if_known, word_of, defines, fits, words_from, program_of}
-use Rattle.dc_image.specs.Valid.{AreWords}
+use Rattle.dc_base.specs.KeptByBlocks.{AreWords}
 use Rattle.dc_image.proofs.Chains.{chained, passed}
 
 -- an operand's number is below it

@@ -1,16 +1,19 @@
 -- What the values have that are read at the keys of tables.
-use Rattle.std.proofs.Common.{◌≡◌, ℕ, ◌<◌, Bool, true, List, [], length, Result, Ok, Option, Some, None, IfSome, sym, ap, ◌∙◌, subst, arith}
+use Rattle.std.proofs.Common.{◌≤◌, ◌≡◌, ℕ, ◌<◌, Bool, true, List, [], length, Result, Ok, Option, Some, None, IfSome, sym, ap, ◌∙◌, subst, arith}
 use Rattle.std.specs.Prelude.{nat_le, nat_lt, ◌&&◌}
 use Rattle.std.proofs.lemmas.Bool.{and_parts}
 use Rattle.std.proofs.lemmas.Bool.Decides.{nat_tests}
 use Rattle.toml.specs.Data.{Data, Items, array, table, string, integer, float, boolean, datetime, get_member}
 use Rattle.dc_base.specs.Results.{◌>>=◌}
 use Rattle.dc_base.specs.FaultText.{ImageRefusal, out_of_range}
-use Rattle.dc_image.specs.Valid.{Within}
 use Rattle.dc_image.specs.KeyText.{under}
 use Rattle.dc_image.specs.ImageKeys.{Table, Rule, found_at, required, if_there, optional, maybe, natural, number_where, number_within, number_below, array_within, item_count, each_within, table_in, table_by}
 use Rattle.dc_image.proofs.Chains.{chained, passed}
 use Rattle.dc_image.proofs.BuiltLaws.{IsBuilt, Read, items_built, is_built}
+
+-- the number is one of these
+abbrev pub Within : ℕ → ℕ → ℕ → Type 0
+Within low high n = (low ≤ n) × (n ≤ high)
 
 -- each value that the rule gives has it
 abbrev pub Has : {A : Type 0} → Rule A → (A → Type 0) → Type 0

@@ -1,5 +1,5 @@
 -- Every image that a text is, is valid.
-use Rattle.std.proofs.Common.{◌≡◌, ℕ, ◌-◌, ◌*◌, ◌/◌, ◌^◌, ◌<◌, ◌≤◌, min, Bool, true, false, List, [], length, take, Result, Ok, Err, Option, Some, None, IfSome, sym, ◌∙◌, subst, arith}
+use Rattle.std.proofs.Common.{◌≡◌, ℕ, ◌-◌, ◌*◌, ◌/◌, ◌^◌, ◌<◌, ◌≤◌, min, Bool, true, false, List, [], length, take, Result, Ok, Err, Option, Some, None, IfSome, sym, subst, arith}
 use Rattle.std.specs.Prelude.{slice_get, ◌==◌, ◌&&◌, nat_lt, not, codes, if◌then◌else◌}
 use Rattle.std.proofs.lemmas.Bool.{and_parts}
 use Rattle.std.proofs.lemmas.Bool.Decides.{nat_tests}
@@ -12,23 +12,21 @@ use Rattle.dc_base.specs.TextWords.{longest_file}
 use Rattle.dc_base.specs.declared.numbers.CoreNo.{CoreNo}
 use Rattle.dc_base.specs.declared.kernels.Clocks.{Clocks}
 use Rattle.dc_base.specs.declared.kernels.Clocks.TheVariants.{Kept}
-use Rattle.dc_base.specs.declared.capabilities.CapKind.{CapKind}
-use Rattle.dc_base.specs.declared.capabilities.CapKind.TheVariants as kind
 use Rattle.dc_base.specs.declared.images.Image.{Image}
 use Rattle.dc_base.specs.declared.images.CoreImage.{CoreImage}
 use Rattle.dc_base.specs.declared.images.BlockImage.{BlockImage}
 use Rattle.dc_base.specs.declared.images.ChanImage.{ChanImage}
-use Rattle.dc_image.specs.Valid.{Within, IsChannel, IsOn, AreHomesApart, NamesIn, is_given, AreLinesApart, IsValid}
+use Rattle.dc_base.specs.Valid.{IsOnAtStart, HomesDiffer, is_given_line, LinesDiffer, IsValid}
 use Rattle.dc_image.specs.ImageKeys.{Table, required, optional, maybe, number_where, number_within, number_below, word_where, version_of, clocks_of, clocks_in, item_count, array_within, each_within, table_by}
-use Rattle.dc_image.specs.BlocksOf.{Machine, around, is_this, is_home_of, blocks_in}
+use Rattle.dc_image.specs.BlocksOf.{Machine, is_this, is_home_of, blocks_in}
 use Rattle.dc_image.specs.ImageOf.{core_in, cores_in, slices_in, channel_in, channels_in, image_in, image_of, document_of}
 use Rattle.dc_image.proofs.Chains.{chained}
 use Rattle.dc_image.proofs.BuiltLaws.{IsBuilt, only_one}
-use Rattle.dc_image.proofs.RuleLaws.{IsList, required_has, optional_has, where_has, within_has, below_has, each_has, array_has, table_has}
-use Rattle.dc_image.proofs.CapLaws.{KindLaw, not_true}
+use Rattle.dc_image.proofs.RuleLaws.{Within, IsList, required_has, optional_has, where_has, within_has, below_has, each_has, array_has, table_has}
+use Rattle.dc_image.proofs.CapLaws.{not_true}
 use Rattle.dc_image.proofs.DispLaws.{none_built}
 use Rattle.dc_image.proofs.BlockLaws.{HomeLaw, BlockAfter, blocks_have, blocks_count}
-use Rattle.dc_image.proofs.ValidParts.{own_block, line_new, home_new}
+use Rattle.dc_image.proofs.ValidParts.{machine, valid_block, line_new, home_new}
 
 core_has : (t : Table) (k : CoreImage) → core_in t ≡ Ok k → k.base < 2 ^ 62
 unfolding core_in
@@ -48,6 +46,13 @@ cores_have t cores e =
     required_has (IsList 1 8 (λ before k. k.base < 2 ^ 62)) (each_within 1 8 (λ before. table_by core_in))
     (each_has 1 8 (λ before k. k.base < 2 ^ 62) (λ before. table_by core_in) (λ before. table_has (λ k. k.base < 2 ^ 62) core_in core_has)) t (codes "core") cores e
 
+-- a channel between two different blocks of so many
+record ChannelLaw (blocks : ℕ) (r : ChanImage) : Type 0 where
+  from : r.from.0 < blocks
+  to : r.to.0 < blocks
+  apart : r.from.0 ≡ r.to.0 → ⊥
+  capacity : Within 1 64 r.capacity
+
 other_block : (blocks from : ℕ) (n : ℕ) → (nat_lt n blocks && not (n == from)) ≡ true → (n < blocks) × (n ≡ from → ⊥)
 other_block blocks from n both =
     let parts = and_parts (nat_lt n blocks) (not (n == from)) both in
@@ -58,7 +63,7 @@ other_block blocks from n both =
     apart : (m k : ℕ) → (m == k) ≡ false → m ≡ k → ⊥
     apart m k other same = grind (arith, nat_tests)
 
-channel_has : (blocks : ℕ) (t : Table) (r : ChanImage) → channel_in blocks t ≡ Ok r → IsChannel blocks r
+channel_has : (blocks : ℕ) (t : Table) (r : ChanImage) → channel_in blocks t ≡ Ok r → ChannelLaw blocks r
 unfolding channel_in
 channel_has blocks t r e =
     let from = chained (required t (codes "from") (number_below blocks)) _ r e in
@@ -69,20 +74,20 @@ channel_has blocks t r e =
     let other = other_block blocks from.first to.first (required_has (λ n. test n ≡ true) (number_where test) (where_has test) t (codes "to") to.first to.was) in
     let made : ChanImage = record { from = record { 0 = from.first }; to = record { 0 = to.first }; capacity = capacity.first } in
     let same : made ≡ r = cc in
-    let law : IsChannel blocks made = record {
+    let law : ChannelLaw blocks made = record {
       from = low;
       to = other.0;
-      apart = other.1;
+      apart = λ same. other.1 (sym same);
       capacity = required_has (Within 1 64) (number_within 1 64) (within_has 1 64) t (codes "capacity") capacity.first capacity.was;
     } in
-    subst (IsChannel blocks) same law
+    subst (ChannelLaw blocks) same law
 
-channels_have : (blocks : ℕ) (t : Table) (channels : List ChanImage) → channels_in blocks t ≡ Ok channels → IsList 0 64 (λ before r. IsChannel blocks r) channels
+channels_have : (blocks : ℕ) (t : Table) (channels : List ChanImage) → channels_in blocks t ≡ Ok channels → IsList 0 64 (λ before r. ChannelLaw blocks r) channels
 unfolding channels_in
 channels_have blocks t channels e =
-    optional_has (IsList 0 64 (λ before r. IsChannel blocks r)) (each_within 0 64 (λ before. table_by (channel_in blocks)))
-    (each_has 0 64 (λ before r. IsChannel blocks r) (λ before. table_by (channel_in blocks)) (λ before. table_has (IsChannel blocks) (channel_in blocks) (channel_has blocks)))
-    t (codes "channel") [] (record { count = (omega arith, omega arith); built = none_built (λ before r. IsChannel blocks r) }) channels e
+    optional_has (IsList 0 64 (λ before r. ChannelLaw blocks r)) (each_within 0 64 (λ before. table_by (channel_in blocks)))
+    (each_has 0 64 (λ before r. ChannelLaw blocks r) (λ before. table_by (channel_in blocks)) (λ before. table_has (ChannelLaw blocks) (channel_in blocks) (channel_has blocks)))
+    t (codes "channel") [] (record { count = (omega arith, omega arith); built = none_built (λ before r. ChannelLaw blocks r) }) channels e
 
 clocks_have : (format : ℕ) (t : Table) (clocks : Clocks) → clocks_in format t ≡ Ok clocks → format ≡ 1 → clocks ≡ Kept
 clocks_have format t clocks e first = in_first (format == 2) (not_second format first) (optional t (codes "clocks") Kept (word_where clocks_of)) e
@@ -105,10 +110,6 @@ slices_has cores t slices some e =
     product : (c s : ℕ) → 1 ≤ c → s ≤ 241664 / c → c * s ≤ 241664
     product c s some low = grind arith
 
--- what is read of the image before its blocks
-abbrev machine : Image → Machine
-machine image = record { cores = image.cores; channels = image.channels; lines = image.lines }
-
 home_is : (o : Option CoreNo) (c : CoreNo) → o ≡ Some c → is_this c.0 o ≡ true
 home_is None c e = cc
 home_is (Some d) c e = let same : d.0 ≡ c.0 = cc in number_is d.0 c.0 same
@@ -119,17 +120,7 @@ home_is (Some d) c e = let same : d.0 ≡ c.0 = cc in number_is d.0 c.0 same
 number-take : (blocks : List BlockImage) (b : ℕ) (x : BlockImage) → slice_get blocks b ≡ Some x → length (take b blocks) ≡ b
 number-take blocks b x at = let low : b < length blocks = slice_get_within blocks b x at in simp length-take (omega arith)
 
--- a capability of the block of a number names what the image has
-named_in : (image : Image) (number : ℕ) (before : List BlockImage) (x : BlockImage) (b : ℕ) (k : CapKind) → number ≡ b → KindLaw (around (machine image) number before x.ports x.signals) k → NamesIn image b k
-named_in image number before x b (kind.Ram first n) same law = tt
-named_in image number before x b (kind.Frame first n) same law = tt
-named_in image number before x b (kind.Port p) same law = tt
-named_in image number before x b (kind.Signal i) same law = tt
-named_in image number before x b (kind.SendEnd y) same law = (law.0, law.1, law.2 ∙ same)
-named_in image number before x b (kind.RecvEnd y) same law = (law.0, law.1, law.2 ∙ same)
-named_in image number before x b (kind.Line l) same law = law.0
-
-on_only : (cores : List CoreImage) (before : List BlockImage) (o : Option CoreNo) → IfSome o (HomeLaw cores before) → IfSome o (IsOn cores)
+on_only : (cores : List CoreImage) (before : List BlockImage) (o : Option CoreNo) → IfSome o (HomeLaw cores before) → IfSome o (IsOnAtStart cores)
 on_only cores before None h = tt
 on_only cores before (Some c) h = h.on
 
@@ -143,37 +134,37 @@ record IsBegun (image : Image) : Type 0 where
   lines : image.lines ≤ 16
   cores : IsList 1 8 (λ before k. k.base < 2 ^ 62) image.cores
   block_count : Within 1 16 (length image.blocks)
-  channels : IsList 0 64 (λ before r. IsChannel (length image.blocks) r) image.channels
+  channels : IsList 0 64 (λ before r. ChannelLaw (length image.blocks) r) image.channels
 
 module _ (image : Image) (law : IsBuilt (BlockAfter (machine image)) image.blocks) where
-  homes_apart : AreHomesApart image.blocks
-  homes_apart a b x y c at_x at_y home_x home_y =
+  homes_differ : HomesDiffer image.blocks
+  homes_differ a b x y c at_x at_y home_x home_y =
       only_one (is_home_of c.0) image.blocks (λ i z at. home_new (machine image) (length (take i image.blocks)) (take i image.blocks) z (law i z at) c.0) a b x y at_x at_y
       (home_is x.home c home_x) (home_is y.home c home_y)
 
-  lines_apart : AreLinesApart image.blocks
-  lines_apart a b x y n at_x at_y given_x given_y =
-      only_one (is_given n) image.blocks (λ i z at. line_new (machine image) (length (take i image.blocks)) (take i image.blocks) z (law i z at) n) a b x y at_x at_y given_x given_y
+  lines_differ : LinesDiffer image.blocks
+  lines_differ n a b x y at_x at_y given_x given_y =
+      only_one (is_given_line n) image.blocks (λ i z at. line_new (machine image) (length (take i image.blocks)) (take i image.blocks) z (law i z at) n) a b x y at_x at_y given_x given_y
 
   valid_of : IsBegun image → IsValid image
   valid_of begun = record {
     format = begun.format;
-    clocks = begun.clocks;
-    quantum = begun.quantum;
-    slices = begun.slices;
-    all_slices = begun.all_slices;
-    lines = begun.lines;
-    core_count = begun.cores.count;
-    block_count = begun.block_count;
-    channel_count = begun.channels.count.1;
+    kept = begun.clocks;
+    limits = record {
+      quantum = begun.quantum;
+      slices = begun.slices;
+      all_slices = begun.all_slices;
+      cores = begun.cores.count;
+      blocks = begun.block_count;
+      channels = begun.channels.count.1;
+      lines = begun.lines;
+    };
     bases = begun.cores.built;
-    channels = begun.channels.built;
-    blocks = λ b x at. own_block (machine image) (length (take b image.blocks)) (take b image.blocks) x (law b x at);
     homes = λ b x at. on_only image.cores (take b image.blocks) x.home (law b x at).home;
-    homes_apart = homes_apart;
-    names = λ b x at d y at_y k c at_c.
-        named_in image (length (take b image.blocks)) (take b image.blocks) x b c.cap.kind (number-take image.blocks b x at) (((law b x at).disps.built d y at_y).caps k c at_c).kind;
-    lines_apart = lines_apart;
+    homes_differ = homes_differ;
+    blocks = λ b x at. valid_block image (length (take b image.blocks)) (take b image.blocks) x b (number-take image.blocks b x at) (law b x at);
+    channels = λ i r at. let c = begun.channels.built i r at in record { from = c.from; to = c.to; apart = c.apart; capacity = c.capacity };
+    lines_differ = lines_differ;
   }
 
 ok_same : {A : Type 0} (x y : A) → ◌≡◌ {A = Result A ImageRefusal} (Ok x) (Ok y) → x ≡ y
@@ -221,7 +212,7 @@ image_in_valid members image e =
       lines = lines_have t lines.first lines.was;
       cores = some;
       block_count = list.count;
-      channels = subst (λ n. IsList 0 64 (λ before r. IsChannel n r) channels.first) (sym count) (channels_have (item_count items.first) t channels.first channels.was);
+      channels = subst (λ n. IsList 0 64 (λ before r. ChannelLaw n r) channels.first) (sym count) (channels_have (item_count items.first) t channels.first channels.was);
     } in
     subst IsValid (ok_same all image blocks.after) (valid_of all list.built begun)
 

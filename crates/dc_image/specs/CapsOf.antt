@@ -13,7 +13,7 @@ use Rattle.dc_base.specs.FaultText.{ImageRefusal}
 use Rattle.dc_image.specs.declared.around.Around.{Around as AroundBlock}
 use Rattle.dc_image.specs.declared.kinds.KindName.{KindName}
 use Rattle.dc_image.specs.declared.kinds.KindName.TheVariants as name
-use Rattle.dc_image.specs.Valid.{is_given}
+use Rattle.dc_base.specs.Valid.{is_given_line}
 use Rattle.dc_image.specs.ImageKeys.{Table, required, optional, number_where, number_within, number_below, word_where}
 
 -- what a block's capabilities may name
@@ -59,7 +59,7 @@ end_in a end t = required t (codes "number") (number_where (λ n. is_end end a.b
 
 -- a line that no block before this one was given
 abbrev pub line_in : Around → Table → Result ℕ ImageRefusal
-line_in a t = required t (codes "number") (number_where (λ n. nat_lt n a.lines && not (list_any (is_given n) a.before)))
+line_in a t = required t (codes "number") (number_where (λ n. nat_lt n a.lines && not (list_any (is_given_line n) a.before)))
 
 -- what a capability of this name is for
 abbrev pub kind_in : Around → Table → KindName → Result CapKind ImageRefusal

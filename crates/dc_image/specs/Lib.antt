@@ -1,5 +1,4 @@
 pub mod KeyText
-pub mod Valid
 pub mod Faults
 pub mod ImageKeys
 pub mod CapsOf

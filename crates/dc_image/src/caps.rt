@@ -8,7 +8,8 @@ ghost use Rattle.dc_image.specs.Faults.{Gives};
 ghost use Rattle.dc_image.specs.KeyText.{key_of, path_of};
 ghost use Rattle.dc_image.specs.ImageKeys.{items_read, number_where, number_below, required, word_where, table_at, table_by};
 ghost use Rattle.dc_image.specs.CapsOf.{around_of, kind_named, range_in, end_in, line_in, kind_in, has_slot, slot_in, cap_in};
-ghost use Rattle.dc_image.specs.Valid.{names_line, is_given};
+ghost use Rattle.dc_base.specs.Capabilities.{is_of_line};
+ghost use Rattle.dc_base.specs.Valid.{is_given_line};
 ghost use Rattle.dc_image.specs.declared.keys.At.TheVariants as at;
 ghost use Rattle.dc_image.specs.declared.keys.Name.TheVariants as name;
 ghost use Rattle.dc_image.specs.declared.keys.Place.TheVariants as place;
@@ -76,7 +77,7 @@ fn recv_end_at(table: &Table, place: Place, around: &Around) -> Result<u32, Faul
 
 /// Whether a capability is for this line.
 fn is_for_line(cap: &CapImage, line: u32) -> bool
-    ensures { result ≡ names_line line cap.now.cap.kind }
+    ensures { result ≡ is_of_line line cap.now.cap.kind }
 {
     match cap.cap.kind {
         CapKind::Line(l) => l.0 == line,
@@ -86,14 +87,14 @@ fn is_for_line(cap: &CapImage, line: u32) -> bool
 
 /// Whether one of the capabilities is for this line.
 fn names_any(caps: &[CapImage], line: u32) -> bool
-    ensures { result ≡ list_any (λ c. names_line line c.cap.kind) caps.now }
+    ensures { result ≡ list_any (λ c. is_of_line line c.cap.kind) caps.now }
 {
     caps.iter().any(|cap| is_for_line(cap, line))
 }
 
 /// Whether a block was given this line.
 fn has_line(block: &BlockImage, line: u32) -> bool
-    ensures { result ≡ is_given line block.now }
+    ensures { result ≡ is_given_line line block.now }
 {
     let disps = block.disps.as_slice();
     disps
@@ -103,7 +104,7 @@ fn has_line(block: &BlockImage, line: u32) -> bool
 
 /// Whether one of the blocks was given this line.
 fn is_taken(blocks: &[BlockImage], line: u32) -> bool
-    ensures { result ≡ list_any (is_given line) blocks.now }
+    ensures { result ≡ list_any (is_given_line line) blocks.now }
 {
     blocks.iter().any(|block| has_line(block, line))
 }

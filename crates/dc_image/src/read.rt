@@ -2,7 +2,7 @@
 
 ghost use Rattle.std.specs.Prelude.{◌≡◌, Ok, IfOk, IfErr};
 ghost use Rattle.dc_image.specs.Faults.{Refuses, refusal_of};
-ghost use Rattle.dc_image.specs.Valid.{IsValid};
+ghost use Rattle.dc_base.specs.Valid.{IsValid};
 ghost use Rattle.dc_image.specs.ImageOf.{image_of};
 
 use crate::image;

@@ -1,0 +1,11 @@
+pub mod FirstEndLaws
+pub mod FirstLaws
+pub mod FirstReports
+pub mod FirstStarts
+pub mod RunTexts
+mod Rises
+mod ReportTexts
+pub mod Hellos
+mod ImageTexts
+mod PlayTexts
+mod TextLines

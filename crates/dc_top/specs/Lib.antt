@@ -1,0 +1,11 @@
+pub mod First
+pub mod FirstEnds
+pub mod FirstImages
+pub mod FirstLines
+pub mod FirstReport
+pub mod FirstSteps
+pub mod Hello
+pub mod Playing
+pub mod Refusals
+pub mod Steps
+pub mod Written
