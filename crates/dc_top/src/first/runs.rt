@@ -7,7 +7,7 @@ ghost use Rattle.dc_io.specs.Counts.{Rose};
 ghost use Rattle.dc_io.specs.Told.{Adds, AddsPrefix};
 ghost use Rattle.dc_top.specs.FirstImages.{is_first_image};
 ghost use Rattle.dc_top.specs.Playing.{step_action};
-ghost use Rattle.dc_top.specs.declared.first.runs.NotPlayed.TheVariants as not;
+ghost use Rattle.dc_top.specs.declared.first.runs.NotPlayed.TheVariants as why;
 
 use crate::first::images::first_machine;
 use crate::first::playing::play;
@@ -35,10 +35,10 @@ pub fn play_image<S: Sink>(
     requires steps { steps < 2 ^ 62 }
     ensures first { OnOk result (is_first_image image.now ≡ true) }
     ensures played { OnOk result (Adds (S.told sink.old) (S.told sink.new) (play_text image.now [] (replicate steps step_action))) }
-    ensures not_first { result ≡ Err not.NotFirst → (is_first_image image.now ≡ false) × (sink.new ≡ sink.old) }
-    ensures memory { result ≡ Err not.Memory → sink.new ≡ sink.old }
-    ensures part { result ≡ Err not.Sink → AddsPrefix (S.told sink.old) (S.told sink.new) (play_text image.now [] (replicate steps step_action)) }
-    ensures failed { result ≡ Err not.Sink → Rose (S.faults sink.old) (S.faults sink.new) }
+    ensures not_first { result ≡ Err why.NotFirst → (is_first_image image.now ≡ false) × (sink.new ≡ sink.old) }
+    ensures memory { result ≡ Err why.Memory → sink.new ≡ sink.old }
+    ensures part { result ≡ Err why.Sink → AddsPrefix (S.told sink.old) (S.told sink.new) (play_text image.now [] (replicate steps step_action)) }
+    ensures failed { result ≡ Err why.Sink → Rose (S.faults sink.old) (S.faults sink.new) }
     ensures grows { S.faults sink.old ≤ S.faults sink.new }
 {
     let machine = match first_machine(alloc, image) {
