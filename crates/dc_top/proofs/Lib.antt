@@ -1,3 +1,4 @@
+mod Answers
 pub mod FirstEndLaws
 pub mod FirstLaws
 pub mod FirstReports

@@ -1,11 +1,15 @@
+pub mod Calls
 pub mod First
 pub mod FirstEnds
 pub mod FirstImages
 pub mod FirstLines
 pub mod FirstReport
 pub mod FirstSteps
+pub mod Halts
 pub mod Hello
 pub mod Playing
 pub mod Refusals
+pub mod Requests
 pub mod Steps
+pub mod Verdict
 pub mod Written

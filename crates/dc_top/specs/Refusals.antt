@@ -34,7 +34,6 @@ image_line (Some r) = image_fault_line r
 
 -- the line of a refusal; none for want of memory
 abbrev pub line_of : Refusal → List ℕ
-line_of why.Usage = usage
 line_of (why.Image f) = image_line (refusal_of f)
 line_of why.ImageNotBuilt = image_not_built
 line_of why.ScriptTooLong = text_fault_line (codes "script") refused.TooLong
@@ -42,9 +41,8 @@ line_of why.ScriptNotBuilt = script_not_built
 line_of why.ScheduleTooLong = text_fault_line (codes "schedule") refused.TooLong
 line_of why.ScheduleNotBuilt = schedule_not_built
 
--- 1 for a wrong use; 2, 3 and 4 for the image, the script and the schedule
+-- 2, 3 and 4 for the image, the script and the schedule
 abbrev pub status_of : Refusal → ℕ
-status_of why.Usage = 1
 status_of (why.Image f) = 2
 status_of why.ImageNotBuilt = 2
 status_of why.ScriptTooLong = 3

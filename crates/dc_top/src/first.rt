@@ -1,10 +1,10 @@
 //! The first path: a machine of one core, one block and one dispatcher.
 
 mod consoles;
-mod images;
-mod lines;
-mod machine;
-mod playing;
+pub(crate) mod images;
+pub(crate) mod lines;
+pub(crate) mod machine;
+pub(crate) mod playing;
 mod reports;
 mod runs;
 

@@ -1,4 +1,4 @@
-//! Why nothing is played, as a status and a line.
+//! Why a file is refused, as a status and a line.
 
 ghost use Rattle.std.specs.Prelude.{◌≡◌, ◌<◌, ◌≤◌, ◌++◌, length, OnErr};
 ghost use Rattle.arrayvec.specs.ArrayString.{array_string_len};
@@ -14,10 +14,9 @@ use dc_base::faults::{AsmKind, ImageFault, Key};
 use dc_io::{Failed, Sink};
 use dc_text::{Line, push_u32};
 
-/// Why nothing is played.
+/// Why a file is refused. Want of memory is no refusal, and has no line.
 #[derive(Debug, Drop)]
 pub enum Refusal {
-    Usage,
     Image(ImageFault),
     ImageNotBuilt,
     ScriptTooLong,
@@ -31,7 +30,6 @@ pub fn status_of(refusal: &Refusal) -> u8
     ensures { result ≡ spec.status_of refusal.now }
 {
     match refusal {
-        Refusal::Usage => 1,
         Refusal::Image(_) => 2,
         Refusal::ImageNotBuilt => 2,
         Refusal::ScriptTooLong => 3,
@@ -111,13 +109,12 @@ fn image_line(fault: &ImageFault) -> Line
 }
 
 /// The line of a refusal, without its newline; empty for want of memory.
-#[tactic(auto, unfolding(dc_base::specs::FaultText::text_fault_line, dc_base::specs::FaultText::usage_line))]
+#[tactic(auto, unfolding(dc_base::specs::FaultText::text_fault_line))]
 fn line_of(refusal: &Refusal) -> Line
     ensures text { result.bytes ≡ spec.line_of refusal.now }
     ensures room { array_string_len result < 256 }
 {
     match refusal {
-        Refusal::Usage => line_with("usage: dc play IMAGE SCRIPT SCHEDULE"),
         Refusal::Image(fault) => image_line(fault),
         Refusal::ImageNotBuilt => line_with("image: not built yet"),
         Refusal::ScriptTooLong => line_with("script: too long"),

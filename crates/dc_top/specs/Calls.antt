@@ -1,0 +1,40 @@
+-- What the top calls promise.
+use Rattle.std.specs.Prelude.{◌≡◌, ◌⊎◌, ◌≤◌, ◌<◌, ℕ, List, Option, IsOk}
+use Rattle.dc_base.specs.TextWords.{ended}
+use Rattle.dc_base.specs.FaultText.{read_fault_line}
+use Rattle.dc_io.specs.Counts.{Rose}
+use Rattle.dc_io.specs.Told.{Adds, AddsPrefix}
+use Rattle.dc_top.specs.Verdict.{play_verdict, inputs_read, image_read}
+
+-- the counts of faults before and after a call, and what the sink told
+pub record Call : Type 0 where
+  pub shelf_faults : ℕ
+  pub shelf_faults_after : ℕ
+  pub sink_faults : ℕ
+  pub sink_faults_after : ℕ
+  pub told : Option (List ℕ)
+  pub told_after : Option (List ℕ)
+
+-- which of three files a read fault names: each file before it was loaded and accepted
+pub data FaultOf (image script schedule : List ℕ) (files : List ℕ → List ℕ) : List ℕ → Type 0 where
+  at_image : FaultOf image script schedule files image
+  at_script : IsOk (image_read (files image)) → FaultOf image script schedule files script
+  at_schedule : IsOk (inputs_read (files image) (files script)) → FaultOf image script schedule files schedule
+
+-- Each status has its cause, and what was written with it.
+pub data PlayAnswers (image script schedule : List ℕ) (files : List ℕ → List ℕ) (call : Call) : ℕ → Type 0 where
+  -- the whole text, or the line of the first file that is refused
+  verdict : Adds call.told call.told_after (play_verdict (files image) (files script) (files schedule)).text →
+      PlayAnswers image script schedule files call (play_verdict (files image) (files script) (files schedule)).status
+  read_fault : (name : List ℕ) → FaultOf image script schedule files name → Rose call.shelf_faults call.shelf_faults_after →
+      Adds call.told call.told_after (ended (read_fault_line name)) → PlayAnswers image script schedule files call 5
+  -- a part of what belongs to one of the two above
+  write_fault : Rose call.sink_faults call.sink_faults_after →
+      AddsPrefix call.told call.told_after (play_verdict (files image) (files script) (files schedule)).text → PlayAnswers image script schedule files call 6
+  both_faults : (name : List ℕ) → FaultOf image script schedule files name → Rose call.shelf_faults call.shelf_faults_after → Rose call.sink_faults call.sink_faults_after →
+      AddsPrefix call.told call.told_after (ended (read_fault_line name)) → PlayAnswers image script schedule files call 6
+  no_memory : call.told_after ≡ call.told → PlayAnswers image script schedule files call 7
+
+-- 0, or 2 to 7
+abbrev pub IsPlayStatus : ℕ → Type 0
+IsPlayStatus status = (status ≡ 0) ⊎ ((1 < status) × (status ≤ 7))

@@ -1,0 +1,80 @@
+//! The top calls.
+
+ghost use Rattle.std.specs.Prelude.{◌≡◌, ◌<◌, ◌≤◌, IfSome};
+ghost use Rattle.dc_io.specs.Counts.{Rose};
+ghost use Rattle.dc_top.specs.Calls.{IsPlayStatus, PlayAnswers};
+ghost use Rattle.dc_top.specs.Halts.{HaltTold, name_of};
+ghost use Rattle.dc_top.specs.Written as spec;
+
+use crate::first::playing::play;
+use crate::halts::{Halt, Which};
+use crate::loads::load_play;
+use crate::refusals::{put_read_fault, put_refusal, status_of};
+use dc_io::{Failed, Shelf, Sink};
+use std::alloc::Global;
+
+/// The status where the text was written whole, and 6 where a put failed.
+pub(crate) fn status_for(outcome: Result<(), Failed>, status: u8) -> u8
+    ensures { result ≡ spec.status_for outcome status }
+{
+    match outcome {
+        Ok(()) => status,
+        Err(_) => 6,
+    }
+}
+
+fn name_of<'a>(which: Which, image: &'a str, script: &'a str, schedule: &'a str) -> &'a str
+    ensures { result.now ≡ name_of which image.now script.now schedule.now }
+{
+    match which {
+        Which::Image => image,
+        Which::Script => script,
+        Which::Schedule => schedule,
+    }
+}
+
+/// Writes why nothing is played, and says the status.
+fn tell<S: Sink>(halt: Halt, image: &str, script: &str, schedule: &str, sink: &mut S) -> u8
+    ensures told { HaltTold halt image.now script.now schedule.now (S.faults sink.old) (S.faults sink.new) (S.told sink.old) (S.told sink.new) result }
+{
+    match halt {
+        Halt::Refused(refusal) => status_for(put_refusal(&refusal, sink), status_of(&refusal)),
+        Halt::Unread(which) => {
+            let name = name_of(which, image, script, schedule);
+            status_for(put_read_fault(name, sink), 5)
+        }
+        Halt::Memory => 7,
+    }
+}
+
+/// Loads and reads an image, a script and a schedule, and stops at the first fault; then plays the schedule, and writes the journal and the report, one line a piece.
+/// The answer is a status: 0 where the whole text was written; 2, 3 or 4 where the image, the script or the schedule is refused, with a line that says why; 5 where a
+/// file could not be read, with a line that names it; 6 where a put failed, with a part of the text that belongs to the case; 7 where memory was wanting, with nothing.
+pub fn play_call<H: Shelf, S: Sink>(
+    alloc: Global,
+    shelf: &mut H,
+    sink: &mut S,
+    image: &str,
+    script: &str,
+    schedule: &str,
+) -> u8
+    ensures answers { IfSome (H.told shelf.old) (λ files. PlayAnswers image.now script.now schedule.now files
+        (record {
+          shelf_faults = H.faults shelf.old;
+          shelf_faults_after = H.faults shelf.new;
+          sink_faults = S.faults sink.old;
+          sink_faults_after = S.faults sink.new;
+          told = S.told sink.old;
+          told_after = S.told sink.new;
+        }) result) }
+    // A status tells a fault only where one was counted, also where nothing is told.
+    ensures read_fault { result ≡ 5 → Rose (H.faults shelf.old) (H.faults shelf.new) }
+    ensures write_fault { result ≡ 6 → Rose (S.faults sink.old) (S.faults sink.new) }
+    ensures no_memory { result ≡ 7 → S.told sink.new ≡ S.told sink.old }
+    ensures listed { IsPlayStatus result }
+{
+    match load_play(alloc, image, script, schedule, shelf) {
+        Ok((machine, steps)) => status_for(play(machine, steps, sink), 0),
+        Err(halt) => tell(halt, image, script, schedule, sink),
+    }
+}

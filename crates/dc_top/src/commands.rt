@@ -1,0 +1,59 @@
+//! The command line.
+
+ghost use Rattle.std.specs.Prelude.{◌≡◌, ◌≤◌, map, string_bytes};
+ghost use Rattle.dc_base.specs.TextWords.{ended};
+ghost use Rattle.dc_io.specs.Counts.{Rose};
+ghost use Rattle.dc_top.specs.Refusals.{usage};
+ghost use Rattle.dc_top.specs.Requests.{CommandAnswers};
+ghost use Rattle.dc_top.specs.Written.{WritesAs};
+
+use crate::calls::{play_call, status_for};
+use crate::writing::put_text;
+use dc_io::{Gate, Shelf, Sink};
+use std::alloc::Global;
+
+const USAGE: &str = "usage: dc play IMAGE SCRIPT SCHEDULE\n";
+
+/// Writes the forms of the command line.
+fn tell_usage<S: Sink>(sink: &mut S) -> u8
+    ensures told { WritesAs (S.faults sink.old) (S.faults sink.new) (S.told sink.old) (S.told sink.new) 1 (ended usage) result }
+{
+    status_for(put_text(sink, USAGE.as_bytes()), 1)
+}
+
+/// Does what the words of a command line, those behind the program's name, ask for. The one form is `play IMAGE SCRIPT SCHEDULE`; words of another form are answered
+/// by the usage line and 1, and a status of the call else. The gate is for cores that run in threads of their own; no form has these yet.
+pub fn command<H: Shelf, S: Sink, G: Gate>(
+    alloc: Global,
+    words: &[String],
+    shelf: &mut H,
+    sink: &mut S,
+    _gate: &G,
+) -> u8
+    ensures answers { CommandAnswers (map string_bytes words.now) (H.told shelf.old)
+        (record {
+          shelf_faults = H.faults shelf.old;
+          shelf_faults_after = H.faults shelf.new;
+          sink_faults = S.faults sink.old;
+          sink_faults_after = S.faults sink.new;
+          told = S.told sink.old;
+          told_after = S.told sink.new;
+        }) result }
+    // A status tells a fault only where one was counted, also where nothing is told.
+    ensures read_fault { result ≡ 5 → Rose (H.faults shelf.old) (H.faults shelf.new) }
+    ensures write_fault { result ≡ 6 → Rose (S.faults sink.old) (S.faults sink.new) }
+    ensures no_memory { result ≡ 7 → S.told sink.new ≡ S.told sink.old }
+    ensures listed { result ≤ 7 }
+{
+    match words {
+        [form, image, script, schedule] if form.as_str() == "play" => play_call(
+            alloc,
+            shelf,
+            sink,
+            image.as_str(),
+            script.as_str(),
+            schedule.as_str(),
+        ),
+        _ => tell_usage(sink),
+    }
+}
