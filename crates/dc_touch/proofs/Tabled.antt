@@ -1,9 +1,8 @@
 -- Turns that look at just what the table says of the entries that they make.
-use Rattle.std.proofs.Common.{◌≡◌, ℕ, List, [], ◌∷◌, ◌++◌, Bool, true, false, Option, Some, None, refl, sym, ap, ◌∙◌, subst, map}
+use Rattle.std.proofs.Common.{◌≡◌, ℕ, List, ◌++◌, Bool, true, false, Option, Some, None, sym, subst}
 use Rattle.std.specs.Prelude.{slice_get, if◌then◌else◌}
 use Rattle.std.specs.List.Sorted.{IsPermutation}
 use Rattle.std.proofs.lemmas.List.{append-nil, append_assoc}
-use Rattle.std.proofs.lemmas.List.Sorted.{IsPermutation-refl}
 use Rattle.dc_base.specs.declared.kernels.Version.{Version}
 use Rattle.dc_base.specs.declared.entries.Entry.{Entry}
 use Rattle.dc_base.specs.declared.entries.What.{What}

@@ -17,7 +17,7 @@ use Rattle.dc_base.specs.Lines.{Wire}
 use Rattle.dc_base.specs.Boot.{refusal}
 use Rattle.dc_base.specs.Boot as boot
 use Rattle.dc_base.specs.Script.{next_raise}
-use Rattle.dc_base.specs.States.{State, Mailbox, empty, order, ack}
+use Rattle.dc_base.specs.States.{State, Mailbox, empty, ack}
 use Rattle.dc_base.specs.Changes.{Name, a_line, a_mailbox, a_console, the_script, Change, mailbox_becomes}
 use Rattle.dc_base.specs.Turns.{did, not_enabled, Turn, ends}
 use Rattle.dc_base.specs.Commands.{post_or_done, begin, with_ack, go_on_from, boot_turn, route_line, poll, await_outcome, command_turn, raise_above, after_raises, script_turn}

@@ -1,12 +1,12 @@
 -- An intake touches what the table says.
-use Rattle.std.proofs.Common.{◌≡◌, ℕ, List, [], ◌∷◌, Option, Some, None, refl}
+use Rattle.std.proofs.Common.{◌≡◌, ℕ, List, [], ◌∷◌, Option, Some, None}
 use Rattle.std.specs.Prelude.{slice_get}
 use Rattle.std.proofs.lemmas.List.Sorted.{IsPermutation-cons, IsPermutation-append_comm}
 use Rattle.dc_base.specs.declared.entries.Entry.{Entry}
 use Rattle.dc_base.specs.Words.{is_number}
 use Rattle.dc_base.specs.Lines.{Wire}
 use Rattle.dc_base.specs.States.{State, Core, Block}
-use Rattle.dc_base.specs.Changes.{Name, a_core, a_block, a_line, Change}
+use Rattle.dc_base.specs.Changes.{a_core, a_block, a_line, Change}
 use Rattle.dc_base.specs.Turns.{not_enabled, ends, look_block, look_line}
 use Rattle.dc_base.specs.Outcomes.{if_here}
 use Rattle.dc_base.specs.Intakes.{intake_outcome, intake_pending, intake_line, intake_turn}

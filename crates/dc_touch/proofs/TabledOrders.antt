@@ -1,5 +1,5 @@
 -- A start, stop, replacement, adoption or release touches what the table says.
-use Rattle.std.proofs.Common.{◌≡◌, ℕ, List, [], ◌∷◌, ◌++◌, Bool, Option, Some, None, refl, map}
+use Rattle.std.proofs.Common.{◌≡◌, ℕ, List, [], ◌∷◌, ◌++◌, Bool, Option, Some, None, map}
 use Rattle.std.specs.Prelude.{slice_get, length}
 use Rattle.std.specs.List.Sorted.{IsPermutation}
 use Rattle.std.proofs.lemmas.List.Sorted.{IsPermutation-refl, IsPermutation-cons, IsPermutation-append_comm}
@@ -8,7 +8,7 @@ use Rattle.dc_base.specs.declared.commands.Order.{Order}
 use Rattle.dc_base.specs.declared.commands.Order.TheVariants as orders
 use Rattle.dc_base.specs.declared.entries.Entry.{Entry}
 use Rattle.dc_base.specs.declared.entries.What.TheVariants as what
-use Rattle.dc_base.specs.States.{State, Core, Block, Mailbox, empty, order, ack}
+use Rattle.dc_base.specs.States.{State, Core, Block, Mailbox, order}
 use Rattle.dc_base.specs.Changes.{Name, a_core, a_block, a_mailbox, Change}
 use Rattle.dc_base.specs.Turns.{ends}
 use Rattle.dc_base.specs.Outcomes.{share_blocks}

@@ -1,6 +1,6 @@
 -- A slice, a slice of no dispatcher and idling touch what the table says.
 use Rattle.std.proofs.Common.{◌≡◌, ℕ, List, [], ◌∷◌, ◌++◌, Bool, true, false, Option, Some, None, refl, sym, ap, ◌∙◌, subst, map}
-use Rattle.std.specs.Prelude.{slice_get, find, if◌then◌else◌, ◌==◌, ℤ}
+use Rattle.std.specs.Prelude.{slice_get, find, if◌then◌else◌, ◌==◌}
 use Rattle.std.specs.List.Sorted.{IsPermutation}
 use Rattle.std.proofs.lemmas.List.{append-nil}
 use Rattle.std.proofs.lemmas.List.Sorted.{IsPermutation-refl}
@@ -11,11 +11,11 @@ use Rattle.dc_base.specs.declared.entries.Entry.{Entry}
 use Rattle.dc_base.specs.declared.entries.What.TheVariants as what
 use Rattle.dc_base.specs.Policies.{pick}
 use Rattle.dc_base.specs.States.{State, Core, Block, Whereabouts, rest, on, time_at, time_on}
-use Rattle.dc_base.specs.Firing.{Fired, fire_all}
+use Rattle.dc_base.specs.Firing.{fire_all}
 use Rattle.dc_base.specs.Serving.{Outside, nothing_outside}
 use Rattle.dc_base.specs.Slices.{Halfway, halfway, need_of, slice_end, without_ready}
-use Rattle.dc_base.specs.Changes.{Name, a_core, a_block, a_channel, a_line, a_console, Change}
-use Rattle.dc_base.specs.Turns.{did, not_enabled, spent, Looked, Turn, ends, look_blocks, looked_at, outcome}
+use Rattle.dc_base.specs.Changes.{Name, a_core, a_channel, a_line, a_console, Change}
+use Rattle.dc_base.specs.Turns.{spent, Looked, Turn, ends, look_blocks, looked_at}
 use Rattle.dc_base.specs.Outcomes.{share_blocks, if_on}
 use Rattle.dc_base.specs.Steps.{as_console, as_channel, as_line, look_outside, slice_outcome, finish_slice, slice_picked, slice_from, slice_turn, is_runnable, next_due, idle_outcome, step_on, step_turn}
 use Rattle.dc_base.specs.TouchTable.{with_share, needed, half_needs, slice_needs}

@@ -1,5 +1,5 @@
 -- A lawful entry touches what the table says.
-use Rattle.std.proofs.Common.{◌≡◌, ℕ, List, [], ◌∷◌, Option, Some, None, refl, map}
+use Rattle.std.proofs.Common.{◌≡◌, ◌↔◌, ℕ, List, [], ◌∷◌, Option, Some, None, refl, map}
 use Rattle.std.specs.Prelude.{slice_get}
 use Rattle.std.specs.List.Sorted.{IsPermutation}
 use Rattle.std.proofs.lemmas.List.Sorted.{IsPermutation-map}
@@ -11,11 +11,12 @@ use Rattle.dc_base.specs.declared.entries.Entry.{Entry}
 use Rattle.dc_base.specs.Script.{next_raise}
 use Rattle.dc_base.specs.States.{State, Settings, Core, Script}
 use Rattle.dc_base.specs.Actions.{action_of, polls_of}
-use Rattle.dc_base.specs.Changes.{a_core, Change}
+use Rattle.dc_base.specs.Changes.{Name, a_core, Change}
 use Rattle.dc_base.specs.Cores.{core_action, core_turn, turn_of}
-use Rattle.dc_base.specs.Histories.{touched, IsLawful}
+use Rattle.dc_base.specs.Histories.{touched, IsLawful, Listed}
 use Rattle.dc_base.specs.Objects.{object_number, touched_numbers}
 use Rattle.dc_base.specs.TouchTable.{tabled_touches}
+use Rattle.dc_touch.proofs.Rearranged.{listed_alike}
 use Rattle.dc_touch.proofs.Tabled.{IsTabled, refused}
 use Rattle.dc_touch.proofs.TabledSlices.{step_tabled}
 use Rattle.dc_touch.proofs.TabledWakes.{wake_tabled}
@@ -47,6 +48,10 @@ module _ (s : State) (chs : List Change) (e : Entry) where
 pub entry_tabled : (s : State) (e : Entry) → IsLawful s e → IsPermutation (touched s e) (tabled_touches s e)
 unfolding touched IsLawful
 entry_tabled s e h = turn_tabled s h.0 e (polls_of e.what) e.actor (action_of e.what) h.1
+
+-- an object is touched exactly where the table lists it
+pub entry_listed : (s : State) (e : Entry) → IsLawful s e → (n : Name) → Listed n (touched s e) ↔ Listed n (tabled_touches s e)
+entry_listed s e h n = listed_alike (touched s e) (tabled_touches s e) n (entry_tabled s e h)
 
 -- the same by the numbers of objects
 pub entry_tabled_by_number : (t : Settings) (s : State) (e : Entry) → IsLawful s e → IsPermutation (touched_numbers t s e) (map (object_number t) (tabled_touches s e))
