@@ -1,0 +1,8 @@
+pub mod PlainWords
+pub mod Numerals
+pub mod EntryWords
+pub mod EntryLines
+pub mod CoreEntries
+pub mod ScriptEntries
+pub mod Candidates
+pub mod Journals
