@@ -1,5 +1,5 @@
 -- The line of an entry is read as that entry.
-use Rattle.std.proofs.Common.{◌≡◌, ℕ, ◌≤◌, Bool, true, false, ◌&&◌, List, [], ◌∷◌, ◌++◌, length, take, decimal, Option, Some, None, option_and_then, option_map, refl, ap, ◌∙◌, arith, bytes_eq}
+use Rattle.std.proofs.Common.{◌≡◌, ℕ, ◌≤◌, true, ◌&&◌, [], ◌∷◌, ◌++◌, length, take, decimal, Some, None, option_and_then, refl, ap, ◌∙◌, arith, bytes_eq}
 use Rattle.std.specs.Prelude.{if◌then◌else◌}
 use Rattle.std.proofs.lemmas.Bool.{and_parts, leb-true}
 use Rattle.std.proofs.lemmas.List.{take_all}
@@ -9,8 +9,8 @@ use Rattle.dc_base.specs.declared.actions.Actor.TheVariants as actor
 use Rattle.dc_base.specs.declared.entries.What.{What}
 use Rattle.dc_base.specs.declared.entries.Entry.{Entry}
 use Rattle.dc_base.specs.EntryText.{actor_words, what_words, entry_text}
-use Rattle.dc_base.specs.EntryRanges.{suits, is_of_core, has_line, are_in_range, is_actor_in_range, is_what_in_range, is_in_range}
-use Rattle.dc_base.specs.JournalText.{candidate, core_what, script_what, if_spelled, entry_of}
+use Rattle.dc_base.specs.EntryRanges.{suits, has_line, is_actor_in_range, is_what_in_range, is_in_range}
+use Rattle.dc_base.specs.JournalText.{candidate, if_spelled, entry_of}
 use Rattle.dc_spelling.proofs.Numerals.{numbers_read}
 use Rattle.dc_spelling.proofs.EntryWords.{few_words}
 use Rattle.dc_spelling.proofs.EntryLines.{entry_words}

@@ -1,5 +1,5 @@
 -- What a core did is read back from its words.
-use Rattle.std.proofs.Common.{◌≡◌, ℕ, ◌+◌, ◌^◌, Bool, true, false, not, ◌&&◌, List, [], ◌∷◌, ◌++◌, refl, ap, sym, ◌∙◌, arith, decimal, codes, Some, None, option_map, nat_lt}
+use Rattle.std.proofs.Common.{◌≡◌, ℕ, Bool, true, false, not, ◌&&◌, List, [], ◌∷◌, ◌++◌, refl, ap, decimal, codes, Some, option_map}
 use Rattle.std.specs.Prelude.{if◌then◌else◌}
 use Rattle.std.proofs.lemmas.Bool.{and_parts}
 use Rattle.dc_base.specs.declared.kernels.Version.{Version}
@@ -15,7 +15,7 @@ use Rattle.dc_base.specs.declared.entries.What.TheVariants as what
 use Rattle.dc_base.specs.TextWords.{is_word}
 use Rattle.dc_base.specs.EntryText.{version_word, op_word, end_words, latched_word, adopted_word, what_words}
 use Rattle.dc_base.specs.EntryRanges.{is_empty_end, is_of_core, is_end_in_range, is_what_in_range, are_in_range, is_time}
-use Rattle.dc_base.specs.JournalText.{loose_number, word_at, last_word, op_of, version_of, end_of, core_what}
+use Rattle.dc_base.specs.JournalText.{word_at, last_word, op_of, version_of, end_of, core_what}
 use Rattle.dc_spelling.proofs.Numerals.{decimal_is_numeral, byte_read, numbers_read, time_read}
 use Rattle.dc_spelling.proofs.EntryLines.{numeral_first, another_word}
 

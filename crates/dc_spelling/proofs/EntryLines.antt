@@ -1,6 +1,6 @@
 -- The line of an entry: its words, no newline in it, and a digit at its head.
-use Rattle.std.proofs.Common.{◌≡◌, ℕ, ◌+◌, ◌==◌, Bool, true, false, not, ◌&&◌, List, [], ◌∷◌, ◌++◌, refl, ap, sym, ◌∙◌, arith, decimal, codes, bytes_eq}
-use Rattle.std.specs.List.{list_all, slice_split, All}
+use Rattle.std.proofs.Common.{◌≡◌, ℕ, ◌==◌, Bool, true, false, not, List, [], ◌∷◌, ◌++◌, refl, ap, sym, ◌∙◌, arith, decimal, codes, bytes_eq}
+use Rattle.std.specs.List.{list_all, All}
 use Rattle.std.specs.Char.{is_ascii_digit}
 use Rattle.std.proofs.lemmas.Bool.{and_parts, and_from, false_from_ne_true, both_ways}
 use Rattle.std.proofs.lemmas.List.Folds.{list_all-append}
@@ -12,7 +12,7 @@ use Rattle.dc_base.specs.declared.entries.Entry.{Entry}
 use Rattle.dc_base.specs.TextWords.{newline, lines_of, words_of, is_word, add_word, add_words, ended}
 use Rattle.dc_base.specs.EntryText.{actor_words, what_words, entry_text}
 use Rattle.dc_base.proofs.WordsLemmas.{words_of-add_words, words_of-word}
-use Rattle.dc_spelling.proofs.PlainWords.{is_plain, has_no_newline, plain_no_newline, plain_is_word, plain_are_words, ArePlain}
+use Rattle.dc_spelling.proofs.PlainWords.{has_no_newline, plain_no_newline, plain_is_word, plain_are_words, ArePlain}
 use Rattle.dc_spelling.proofs.Numerals.{is_numeral, decimal_is_numeral, plain_number}
 use Rattle.dc_spelling.proofs.EntryWords.{plain_actor, plain_what}
 

@@ -1,5 +1,5 @@
 -- The words of an entry's line: each is plain, and there are at most 16.
-use Rattle.std.proofs.Common.{◌≡◌, Bool, true, false, List, [], ◌∷◌, length, nat_le, refl}
+use Rattle.std.proofs.Common.{◌≡◌, Bool, true, false, length, nat_le, refl}
 use Rattle.dc_base.specs.declared.kernels.Version.{Version}
 use Rattle.dc_base.specs.declared.kernels.Version.TheVariants.{Rr, Edf}
 use Rattle.dc_base.specs.declared.actions.Actor.{Actor}
@@ -18,7 +18,6 @@ use Rattle.dc_base.specs.declared.commands.Refusal.{Refusal}
 use Rattle.dc_base.specs.declared.commands.Refusal.TheVariants as refusal
 use Rattle.dc_base.specs.declared.entries.What.{What}
 use Rattle.dc_base.specs.declared.entries.What.TheVariants as what
-use Rattle.dc_base.specs.declared.entries.Entry.{Entry}
 use Rattle.dc_base.specs.EntryText.{version_word, op_word, end_words, latched_word, adopted_word, order_words, refusal_words, raised_words, actor_words, what_words}
 use Rattle.dc_spelling.proofs.PlainWords.{is_plain, ArePlain, ArePlain-append}
 use Rattle.dc_spelling.proofs.Numerals.{plain_number}

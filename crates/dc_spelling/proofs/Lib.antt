@@ -6,3 +6,4 @@ pub mod CoreEntries
 pub mod ScriptEntries
 pub mod Candidates
 pub mod Journals
+pub mod ReadLines

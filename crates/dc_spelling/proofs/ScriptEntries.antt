@@ -1,5 +1,5 @@
 -- What the script did is read back from its words.
-use Rattle.std.proofs.Common.{◌≡◌, ℕ, ◌^◌, Bool, true, false, List, [], ◌∷◌, drop, decimal, Some, refl, ap}
+use Rattle.std.proofs.Common.{◌≡◌, ◌^◌, true, [], ◌∷◌, drop, decimal, Some, refl, ap}
 use Rattle.dc_base.specs.declared.interrupts.Raised.{Raised}
 use Rattle.dc_base.specs.declared.interrupts.Raised.TheVariants as raised
 use Rattle.dc_base.specs.declared.commands.Order.{Order}
