@@ -43,6 +43,12 @@ module _ (s : State) (p : IsSound s) where
   pub block_small : (b : ℕ) (x : Block) → slice_get s.blocks b ≡ Some x → b < 2 ^ 32
   block_small b x at = let within = slice_get_within s.blocks b x at in let many = p.settled.blocks in let most = p.settled.limits.blocks.1 in omega (arith, within, many, most)
 
+  pub core_within : (c : ℕ) → c < s.script.settings.cores → c < 2 ^ 32
+  core_within c within = let most = p.settled.limits.cores.1 in omega (arith, within, most)
+
+  pub block_within : (b : ℕ) → b < s.script.settings.blocks → b < 2 ^ 32
+  block_within b within = let most = p.settled.limits.blocks.1 in omega (arith, within, most)
+
   pub line_small : (l : ℕ) (w : Wire) → slice_get s.lines l ≡ Some w → l < 2 ^ 32
   line_small l w at = let within = slice_get_within s.lines l w at in let many = p.settled.lines in let most = p.settled.limits.lines in omega (arith, within, many, most)
 

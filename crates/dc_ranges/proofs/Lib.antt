@@ -2,3 +2,5 @@ pub mod Bounds
 pub mod Shown
 pub mod Slices
 pub mod StepEntries
+pub mod CoreEntries
+pub mod Refusals

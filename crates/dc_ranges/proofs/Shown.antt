@@ -51,3 +51,7 @@ module _ (s : State) where
   pub by_version : (o : Option Version) (t : Turn) → (is_some o ≡ true → Comes s t) → Comes s (if_on o t)
   by_version None t f = tt
   by_version (Some v) t f = f refl
+
+pub by_outcome : (b : Bool) (o u : Outcome) → Shows o → Shows u → Shows (if b then o else u)
+by_outcome true o u f g = f
+by_outcome false o u f g = g
