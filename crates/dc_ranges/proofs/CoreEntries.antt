@@ -1,6 +1,6 @@
 -- A core makes an entry that is in range: beside steps, wakes, intakes and orders.
-use Rattle.std.proofs.Common.{◌≡◌, ℕ, ◌+◌, ◌*◌, ◌^◌, ◌<◌, ◌≤◌, Bool, true, false, List, [], ◌∷◌, Option, Some, None, refl, ap, sym, subst, ◌∙◌, arith, length}
-use Rattle.std.specs.Prelude.{⊤, IfSome, slice_get, nat_lt, ◌==◌, is_some, if◌then◌else◌, max}
+use Rattle.std.proofs.Common.{◌≡◌, ℕ, ◌^◌, ◌<◌, ◌≤◌, Bool, true, [], ◌∷◌, Option, Some, None, refl, ap, sym, subst, ◌∙◌, arith, length}
+use Rattle.std.specs.Prelude.{IfSome, slice_get, nat_lt, ◌==◌}
 use Rattle.std.specs.Option.{option_map}
 use Rattle.std.proofs.lemmas.Bool.{and_from}
 use Rattle.std.proofs.lemmas.Bool.Decides.{nat_tests}
@@ -18,13 +18,12 @@ use Rattle.dc_base.specs.declared.kernels.Version.{Version}
 use Rattle.dc_base.specs.declared.numbers.BlockNo.{BlockNo}
 use Rattle.dc_base.specs.declared.entries.What.TheVariants as what
 use Rattle.dc_base.specs.declared.entries.Reason.TheVariants as reason
-use Rattle.dc_base.specs.EntryRanges.{is_time, are_in_range}
 use Rattle.dc_base.specs.Channels.{Ring, is_full}
 use Rattle.dc_base.specs.Cores.{core_action, core_turn}
-use Rattle.dc_base.specs.Intakes.{intake_entry, intake_outcome, intake_pending, intake_line}
+use Rattle.dc_base.specs.Intakes.{intake_outcome, intake_pending, intake_line}
 use Rattle.dc_base.specs.Lines.{Wire}
 use Rattle.dc_base.specs.Orders.{adopted_time, adopt_outcome, release_outcome, carry_out, order_turn}
-use Rattle.dc_base.specs.Outcomes.{by_core, has, if_on, if_here}
+use Rattle.dc_base.specs.Outcomes.{has, if_on, if_here}
 use Rattle.dc_base.specs.Placed.{IsOn}
 use Rattle.dc_base.specs.Ports.{how_latched, latch_at}
 use Rattle.dc_base.specs.Progress.{IsRest, IsAtRest, Fits}
@@ -36,7 +35,7 @@ use Rattle.dc_base.specs.Words.{is_number}
 use Rattle.dc_sound.proofs.Elements.{same_some}
 use Rattle.dc_sound.proofs.Times.{clock_of-at}
 use Rattle.dc_ranges.proofs.Bounds.{core_small, block_small, line_small, dispatcher_small, share_small, raised_small, clock_small, time_small}
-use Rattle.dc_ranges.proofs.Shown.{IsShown, Shows, Comes, small, timed, core_shown, by_if, by_version, by_outcome}
+use Rattle.dc_ranges.proofs.Shown.{Shows, Comes, small, timed, core_shown, by_if, by_version, by_outcome}
 use Rattle.dc_ranges.proofs.StepEntries.{step_comes}
 
 -- the later of two times, or the kept one

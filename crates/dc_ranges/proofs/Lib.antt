@@ -4,3 +4,5 @@ pub mod Slices
 pub mod StepEntries
 pub mod CoreEntries
 pub mod Refusals
+pub mod ScriptEntries
+pub mod RunEntries

@@ -1,5 +1,5 @@
 -- A refusal names what exists.
-use Rattle.std.proofs.Common.{◌≡◌, ℕ, ◌+◌, ◌^◌, ◌<◌, ◌≤◌, Bool, true, false, List, [], ◌∷◌, Option, Some, None, refl, ap, sym, subst, ◌∙◌, arith, length, map}
+use Rattle.std.proofs.Common.{◌≡◌, ℕ, ◌^◌, ◌<◌, Bool, true, false, List, [], ◌∷◌, Option, Some, None, refl, ap, sym, subst, ◌∙◌, length}
 use Rattle.std.specs.Prelude.{⊤, slice_get, nat_le, ◌==◌, is_some, if◌then◌else◌}
 use Rattle.std.specs.Option.{option_map}
 use Rattle.std.proofs.lemmas.Option.{slice_get-map}
@@ -14,7 +14,7 @@ use Rattle.dc_base.specs.Same.{is_same_version}
 use Rattle.dc_base.specs.Words.{bind, first_of, is_number}
 use Rattle.dc_base.specs.EntryRanges.{refusal_numbers}
 use Rattle.dc_base.specs.Bounded.{CommandWithin}
-use Rattle.dc_base.specs.Boot.{Booted, Registry, core_of, booted_at, home_on, parked_on, already_on, off, same_version, not_at_rest, home_taken, is_home, is_parked, not_home, not_parked, on_that_core, share_full, refusal}
+use Rattle.dc_base.specs.Boot.{Booted, Registry, core_of, booted_at, home_on, parked_on, off, same_version, not_at_rest, home_taken, is_home, is_parked, not_home, not_parked, on_that_core, share_full, refusal}
 use Rattle.dc_base.specs.Placed.{IsListed}
 use Rattle.dc_base.specs.Progress.{home_block, parked_blocks, booted_of, boot_of}
 use Rattle.dc_base.specs.Sound.{IsSound}

@@ -1,5 +1,5 @@
 -- Entries with lines and numbers in range, and turns that make no other.
-use Rattle.std.proofs.Common.{◌≡◌, ℕ, ◌^◌, ◌<◌, Bool, true, false, ◌&&◌, List, [], ◌∷◌, Option, Some, None, refl}
+use Rattle.std.proofs.Common.{◌≡◌, ℕ, ◌^◌, ◌<◌, Bool, true, false, List, [], ◌∷◌, Option, Some, None, refl}
 use Rattle.std.specs.Prelude.{⊤, is_some, if◌then◌else◌}
 use Rattle.std.proofs.lemmas.Bool.{and_from, lt-ltb}
 use Rattle.dc_base.specs.declared.kernels.Version.{Version}
@@ -7,7 +7,7 @@ use Rattle.dc_base.specs.declared.entries.What.{What}
 use Rattle.dc_base.specs.declared.entries.Entry.{Entry}
 use Rattle.dc_base.specs.EntryRanges.{is_of_core, is_of_script, is_what_in_range, are_in_range, is_time, has_line, is_in_range}
 use Rattle.dc_base.specs.States.{State}
-use Rattle.dc_base.specs.Turns.{Outcome, did, not_enabled, spent, Turn, outcome}
+use Rattle.dc_base.specs.Turns.{Outcome, did, Turn, outcome}
 use Rattle.dc_base.specs.Outcomes.{by_core, by_script, if_on}
 
 -- the entry has a line, and its numbers are in range
