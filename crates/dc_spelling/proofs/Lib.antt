@@ -6,4 +6,5 @@ pub mod CoreEntries
 pub mod ScriptEntries
 pub mod Candidates
 pub mod Journals
+pub mod ReadRanges
 pub mod ReadLines

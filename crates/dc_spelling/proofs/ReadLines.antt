@@ -11,29 +11,32 @@ use Rattle.dc_base.specs.declared.entries.Entry.{Entry}
 use Rattle.dc_base.specs.Results.{◌>>=◌, or_fault}
 use Rattle.dc_base.specs.TextWords.{newline, lines_of, first_words, is_word, ended}
 use Rattle.dc_base.specs.EntryText.{entry_text, journal_from}
-use Rattle.dc_base.specs.EntryRanges.{has_line}
+use Rattle.dc_base.specs.EntryRanges.{has_line, is_in_range}
 use Rattle.dc_base.specs.JournalText.{candidate, if_spelled, entry_of, said_from, journal_of, EndsJournal}
+use Rattle.dc_spelling.proofs.ReadRanges.{IfThere, candidate_low}
 
--- the entry has a line, and this is it
+-- the entry has a line, this is it, and its numbers are in range
 pub record Spells (t : ℕ) (line : List ℕ) (e : Entry) : Type 0 where
   pub lined : has_line e ≡ true
   pub same : line ≡ entry_text t e
+  pub low : is_in_range e ≡ true
 
 -- an entry that a line says is spelled by it
-spelled : (t : ℕ) (line : List ℕ) (o : Option Entry) (e : Entry) → option_and_then (if_spelled t line) o ≡ Some e → Spells t line e
-spelled t line None e is = absurd (cc is)
-spelled t line (Some d) e is =
+spelled : (t : ℕ) (line : List ℕ) (o : Option Entry) (e : Entry) → IfThere is_in_range o → option_and_then (if_spelled t line) o ≡ Some e → Spells t line e
+spelled t line None e low is = absurd (cc is)
+spelled t line (Some d) e low is =
     let given = cond_some (has_line d && bytes_eq (entry_text t d) line) d e is in
     let tests = and_parts (has_line d) (bytes_eq (entry_text t d) line) given.0 in
-    subst (Spells t line) given.1 (record { lined = tests.0; same = sym ((bytes_eq-Decides (entry_text t d) line).0 tests.1) })
+    subst (Spells t line) given.1 (record { lined = tests.0; same = sym ((bytes_eq-Decides (entry_text t d) line).0 tests.1); low = low.each d refl })
 
 said_is_spelled : (t : ℕ) (line : List ℕ) (e : Entry) → entry_of t line ≡ Some e → Spells t line e
 unfolding entry_of
-said_is_spelled t line e is = spelled t line (candidate (first_words line)) e is
+said_is_spelled t line e is = spelled t line (candidate (first_words line)) e (candidate_low (first_words line)) is
 
--- the text is these entries' lines from a ticket on, and nothing or a report behind them
+-- the text is these entries' lines from a ticket on, and nothing or a report behind them; the entries are in range
 pub record Told (t : ℕ) (text : List ℕ) (es : List Entry) : Type 0 where
   pub lined : list_all has_line es ≡ true
+  pub low : list_all is_in_range es ≡ true
   pub rest : List ℕ
   pub same : text ≡ journal_from t es ++ rest
   pub ends : EndsJournal rest
@@ -41,19 +44,20 @@ pub record Told (t : ℕ) (text : List ℕ) (es : List Entry) : Type 0 where
 nothing_told : (t : ℕ) (es : List Entry) → ◌≡◌ {A = Result (List Entry) ℕ} (Ok []) (Ok es) → Told t [] es
 nothing_told t es is =
     let none : [] ≡ es = cc is in
-    subst (Told t []) none (record { lined = refl; rest = []; same = refl; ends = inl refl })
+    subst (Told t []) none (record { lined = refl; low = refl; rest = []; same = refl; ends = inl refl })
 
 report_told : (t : ℕ) (line more : List ℕ) (es : List Entry) → is_word "report" line ≡ true → ◌≡◌ {A = Result (List Entry) ℕ} (Ok []) (Ok es) → Told t (line ++ newline ∷ more) es
 report_told t line more es report is =
     let none : [] ≡ es = cc is in
     let head : codes "report" ≡ line = (bytes_eq-Decides (codes "report") line).0 report in
     let text : line ++ newline ∷ more ≡ ended (codes "report") ++ more = ap (λ l. l ++ newline ∷ more) (sym head) in
-    subst (Told t (line ++ newline ∷ more)) none (record { lined = refl; rest = line ++ newline ∷ more; same = refl; ends = inr (more, text) })
+    subst (Told t (line ++ newline ∷ more)) none (record { lined = refl; low = refl; rest = line ++ newline ∷ more; same = refl; ends = inr (more, text) })
 
 -- one more line
 line_told : (t : ℕ) (line more : List ℕ) (e : Entry) (es : List Entry) → Spells t line e → Told (t + 1) more es → Told t (line ++ newline ∷ more) (e ∷ es)
 line_told t line more e es here further = record {
   lined = and_from _ _ here.lined further.lined;
+  low = and_from _ _ here.low further.low;
   rest = further.rest;
   same =
       ap (λ l. l ++ newline ∷ more) here.same
