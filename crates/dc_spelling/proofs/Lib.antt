@@ -8,3 +8,4 @@ pub mod Candidates
 pub mod Journals
 pub mod ReadRanges
 pub mod ReadLines
+mod PremisesNeeded
