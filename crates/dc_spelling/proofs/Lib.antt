@@ -1,0 +1,11 @@
+pub mod PlainWords
+pub mod Numerals
+pub mod EntryWords
+pub mod EntryLines
+pub mod CoreEntries
+pub mod ScriptEntries
+pub mod Candidates
+pub mod Journals
+pub mod ReadRanges
+pub mod ReadLines
+mod PremisesNeeded

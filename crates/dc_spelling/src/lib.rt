@@ -1,0 +1,21 @@
+//! The spelling of journals and the reading of them fit each other. Each law is the contract of a function that does nothing.
+#![tactic(auto)]
+
+ghost use Rattle.std.specs.Prelude.{◌≡◌, ℕ, List, ◌++◌, IsTrue, Ok};
+ghost use Rattle.std.specs.List.{list_all};
+ghost use Rattle.dc_base.specs.declared.entries.Entry.{Entry};
+ghost use Rattle.dc_base.specs.EntryText.{journal_text};
+ghost use Rattle.dc_base.specs.EntryRanges.{has_line, is_in_range};
+ghost use Rattle.dc_base.specs.JournalText.{journal_of, EndsJournal};
+
+/// What is spelled is read: of entries that have lines and whose numbers are in range, the lines are read as just these entries, where nothing or a report follows.
+pub fn what_is_spelled_is_read()
+    ensures { (es : List Entry) (rest : List ℕ) → IsTrue (list_all has_line es) → IsTrue (list_all is_in_range es) → EndsJournal rest → journal_of (journal_text es ++ rest) ≡ Ok es }
+{}
+
+/// What is read is spelled: the entries that a text says have lines and are in range, and the text begins with just these lines; behind them nothing or a report follows.
+pub fn what_is_read_is_spelled()
+    ensures lines { (text : List ℕ) (es : List Entry) → journal_of text ≡ Ok es → IsTrue (list_all has_line es) }
+    ensures ranges { (text : List ℕ) (es : List Entry) → journal_of text ≡ Ok es → IsTrue (list_all is_in_range es) }
+    ensures text { (text : List ℕ) (es : List Entry) → journal_of text ≡ Ok es → (rest : List ℕ) × (text ≡ journal_text es ++ rest) × EndsJournal rest }
+{}
