@@ -1,0 +1,80 @@
+-- How the entries of commands follow one another and the orders, in sentences over whole journals.
+use Rattle.std.specs.Prelude.{◌≡◌, ◌⊎◌, ℕ, ◌≤◌, ◌<◌, List, [], ◌∷◌, ◌++◌, Bool, true, false, Some, IsTrue, slice_get}
+use Rattle.dc_base.specs.declared.images.Image.{Image}
+use Rattle.dc_base.specs.declared.kernels.Version.{Version}
+use Rattle.dc_base.specs.declared.numbers.BlockNo.{BlockNo}
+use Rattle.dc_base.specs.declared.numbers.CoreNo.{CoreNo}
+use Rattle.dc_base.specs.declared.numbers.LineNo.{LineNo}
+use Rattle.dc_base.specs.declared.commands.Order.{Order}
+use Rattle.dc_base.specs.declared.commands.ScriptLine.{ScriptLine}
+use Rattle.dc_base.specs.declared.commands.ScriptLine.TheVariants as line
+use Rattle.dc_base.specs.declared.entries.Entry.{Entry}
+use Rattle.dc_base.specs.declared.entries.What.{What}
+use Rattle.dc_base.specs.declared.entries.What.TheVariants as what
+use Rattle.dc_base.specs.Outcomes.{by_core, by_script}
+use Rattle.dc_base.specs.Script.{is_command}
+use Rattle.dc_base.specs.Answers.{order_in}
+use Rattle.dc_journal_laws.specs.Clocks.{core_clock}
+use Rattle.dc_journal_laws.specs.Entries.{command_line, finishes, is_finished, posted, carried_out}
+
+-- commands are answered by line number: the lines never fall, and rise after a command's last entry
+abbrev pub AnsweredByLine : Image → List ScriptLine → List Entry → Type 0
+AnsweredByLine image script journal =
+    (before between after : List Entry) (d e : Entry) (p q : ℕ) → journal ≡ before ++ d ∷ (between ++ e ∷ after) → command_line d.what ≡ Some p → command_line e.what ≡ Some q →
+    (p ≤ q) × (IsTrue (finishes p d) → p < q)
+
+-- no command is left out: one is answered when every command above it is finished
+abbrev pub NoneLeftOut : Image → List ScriptLine → List Entry → Type 0
+NoneLeftOut image script journal =
+    (before after : List Entry) (e : Entry) (p q : ℕ) (l : ScriptLine) → journal ≡ before ++ e ∷ after → command_line e.what ≡ Some q →
+    slice_get script p ≡ Some l → IsTrue (is_command l) → p < q → IsTrue (is_finished p before)
+
+-- what comes after a post of the same command is a post or done
+abbrev pub goes_on : What → Bool
+goes_on (what.Post q c o) = true
+goes_on (what.Done q) = true
+goes_on w = false
+
+-- a command has one entry, or posts and then done
+abbrev pub AnsweredOnce : Image → List ScriptLine → List Entry → Type 0
+AnsweredOnce image script journal =
+    (before between after : List Entry) (d e : Entry) (q : ℕ) → journal ≡ before ++ d ∷ (between ++ e ∷ after) → command_line d.what ≡ Some q → command_line e.what ≡ Some q → IsTrue (goes_on e.what)
+
+-- a route entry shows the line and the core of its line of the script
+abbrev pub RoutedAsSaid : Image → List ScriptLine → List Entry → Type 0
+RoutedAsSaid image script journal =
+    (before after : List Entry) (q : ℕ) (l : LineNo) (c : CoreNo) → journal ≡ before ++ by_script (what.Route q l c) ∷ after → slice_get script q ≡ Some (line.Route l c)
+
+-- line q of the script awaits this many words of the block
+pub record Awaits (script : List ScriptLine) (q : ℕ) (b : BlockNo) (words : ℕ) : Type 0 where
+  pub limit : ℕ
+  pub in_script : slice_get script q ≡ Some (line.Await b words limit)
+
+-- an await that is met saw at least its words
+abbrev pub MetWithEnough : Image → List ScriptLine → List Entry → Type 0
+MetWithEnough image script journal =
+    (before after : List Entry) (q : ℕ) (b : BlockNo) (seen : ℕ) → journal ≡ before ++ by_script (what.Met q b seen) ∷ after → (words : ℕ) × Awaits script q b words × (words ≤ seen)
+
+-- an await that is not met saw fewer
+abbrev pub UnmetWithFewer : Image → List ScriptLine → List Entry → Type 0
+UnmetWithFewer image script journal =
+    (before after : List Entry) (q : ℕ) (b : BlockNo) (seen : ℕ) → journal ≡ before ++ by_script (what.Unmet q b seen) ∷ after → (words : ℕ) × Awaits script q b words × (seen < words)
+
+-- a start shows its core's clock
+abbrev pub StartedInTime : Image → List ScriptLine → List Entry → Type 0
+StartedInTime image script journal =
+    (before after : List Entry) (c : ℕ) (v : Version) (clock : ℕ) → journal ≡ before ++ by_core c (what.Start v clock) ∷ after → clock ≡ core_clock image before c
+
+-- an order entry of a core is the last order posted, to this core, and all posted before were carried out
+abbrev pub CarriedOutAsPosted : Image → List ScriptLine → List Entry → Type 0
+CarriedOutAsPosted image script journal =
+    (before after : List Entry) (c : ℕ) (w : What) (o : Order) → journal ≡ before ++ by_core c w ∷ after → order_in w ≡ Some o → posted before ≡ carried_out before ++ (c, o) ∷ []
+
+-- where a command makes an entry, every order posted is carried out
+abbrev pub CarriedOutBefore : Image → List ScriptLine → List Entry → Type 0
+CarriedOutBefore image script journal = (before after : List Entry) (e : Entry) (q : ℕ) → journal ≡ before ++ e ∷ after → command_line e.what ≡ Some q → posted before ≡ carried_out before
+
+-- at each moment at most one order waits to be carried out
+abbrev pub OneWaits : Image → List ScriptLine → List Entry → Type 0
+OneWaits image script journal =
+    (before after : List Entry) → journal ≡ before ++ after → (posted before ≡ carried_out before) ⊎ ((o : ℕ × Order) × (posted before ≡ carried_out before ++ o ∷ []))

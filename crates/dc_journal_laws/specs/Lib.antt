@@ -1,0 +1,6 @@
+pub mod Entries
+pub mod Clocks
+pub mod Holding
+pub mod Booting
+pub mod Answering
+pub mod Raising
