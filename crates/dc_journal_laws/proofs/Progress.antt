@@ -1,0 +1,1 @@
+-- How far the commands of the script are answered.
