@@ -82,7 +82,7 @@ only_if_some : {A : Type 0} (test : Bool) (x y : A) → only_if test x ≡ Some 
 only_if_some false x y h = absurd cc
 only_if_some true x y h = let same : x ≡ y = cc in (refl, same)
 
-if_some : {A : Type 0} (test : Bool) (o : Option A) (y : A) → (if test then o else None) ≡ Some y → (test ≡ true) × (o ≡ Some y)
+pub if_some : {A : Type 0} (test : Bool) (o : Option A) (y : A) → (if test then o else None) ≡ Some y → (test ≡ true) × (o ≡ Some y)
 if_some false o y h = absurd cc
 if_some true o y h = (refl, h)
 

@@ -92,12 +92,13 @@ made_by kind pairs time clock c (what.Release a x) b h same = let at : a.0 ≡ b
 made_by kind pairs time clock c w b h same = absurd cc
 
 module _ (image : Image) (lines : List ScriptLine) where
-  -- what an entry needs of the holders is so, and after it no block has two
-  record IsHeld (s : Seen) (e : Entry) : Type 0 where
-    need : holds_for_by image.clocks s.told.holders (block_clock s.blocks) (clock_told s.told) e.actor e.what ≡ true
-    once : held_once (held_after s.told.holders e) ≡ true
+  -- what an entry needs of the holders is so, after it no block has two, and its core is on where it must be
+  pub record IsHeld (s : Seen) (e : Entry) : Type 0 where
+    pub need : holds_for_by image.clocks s.told.holders (block_clock s.blocks) (clock_told s.told) e.actor e.what ≡ true
+    pub once : held_once (held_after s.told.holders e) ≡ true
+    pub on : from_on s.boot e ≡ true
 
-  is_held : (s : Seen) (e : Entry) (n : Seen) → Comes (terms_of image) lines s e n → IsHeld s e
+  pub is_held : (s : Seen) (e : Entry) (n : Seen) → Comes (terms_of image) lines s e n → IsHeld s e
   unfolding entry_holds well_held
   is_held s e n comes =
       let need = holds_for_by image.clocks s.told.holders (block_clock s.blocks) (clock_told s.told) e.actor e.what in
@@ -105,7 +106,7 @@ module _ (image : Image) (lines : List ScriptLine) where
       let outer = both (columns_agree image.quantum s.told s.blocks e) ((need && once) && from_on s.boot e) comes.holds in
       let inner = both (need && once) (from_on s.boot e) outer.1 in
       let parts = both need once inner.0 in
-      record { need = parts.0; once = parts.1 }
+      record { need = parts.0; once = parts.1; on = inner.1 }
 
   pub held_once-told : (before : List Entry) (s : Seen) → run image lines before ≡ Some s → held_once s.told.holders ≡ true
   unfolding seen_start told_start told_after held_start

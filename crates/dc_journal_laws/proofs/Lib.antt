@@ -5,3 +5,7 @@ pub mod Lists
 pub mod Places
 pub mod Waits
 pub mod Progress
+pub mod Raises
+pub mod Booting
+pub mod Answering
+pub mod Raising

@@ -125,28 +125,28 @@ raise_none (suc j) (suc k) n (line.Route l c ∷ ls) h e = raise_none (suc j) (s
 raise_none (suc j) (suc k) n (line.Await b w m ∷ ls) h e = raise_none (suc j) (suc k) (n + 1) ls h e
 
 pub data Order3 (i j : ℕ) : Type 0 where
-  less : i < j → Order3 i j
-  equal : i ≡ j → Order3 i j
-  more : j < i → Order3 i j
+  is_less : i < j → Order3 i j
+  is_equal : i ≡ j → Order3 i j
+  is_more : j < i → Order3 i j
 
 -- one number is less, equal or more
 pub order3 : (i j : ℕ) → Order3 i j
 order3 i j = go (nat_lt i j) (nat_lt j i) refl refl
   where
     go : (t u : Bool) → nat_lt i j ≡ t → nat_lt j i ≡ u → Order3 i j
-    go true u a b = less (grind (arith, nat_tests, a))
-    go false true a b = more (grind (arith, nat_tests, b))
-    go false false a b = equal (grind (arith, nat_tests, a, b))
+    go true u a b = is_less (grind (arith, nat_tests, a))
+    go false true a b = is_more (grind (arith, nat_tests, b))
+    go false false a b = is_equal (grind (arith, nat_tests, a, b))
 
 below_by : (ls : List ScriptLine) (k j q p : ℕ) (o : Option ℕ) → next_raise ls j ≡ o → is_above q o ≡ true → next_raise ls k ≡ Some p → p < q → Order3 k j → k < j
-below_by ls k j q p o e above f h (less a) = a
-below_by ls k j q p None e above f h (equal a) = let none : next_raise ls k ≡ None = ap (λ i. next_raise ls i) a ∙ e in absurd cc
-below_by ls k j q p None e above f h (more a) = let none : next_raise ls k ≡ None = raise_none j k 0 ls (omega arith) e in absurd cc
-below_by ls k j q p (Some r) e above f h (equal a) =
+below_by ls k j q p o e above f h (is_less a) = a
+below_by ls k j q p None e above f h (is_equal a) = let none : next_raise ls k ≡ None = ap (λ i. next_raise ls i) a ∙ e in absurd cc
+below_by ls k j q p None e above f h (is_more a) = let none : next_raise ls k ≡ None = raise_none j k 0 ls (omega arith) e in absurd cc
+below_by ls k j q p (Some r) e above f h (is_equal a) =
     let low : q < r = grind (arith, nat_tests, above) in
     let same : r ≡ p = same_some (next_raise ls k) r p (ap (λ i. next_raise ls i) a ∙ e) f in
     absurd (omega (arith, low, same))
-below_by ls k j q p (Some r) e above f h (more a) =
+below_by ls k j q p (Some r) e above f h (is_more a) =
     let low : q < r = grind (arith, nat_tests, above) in
     let high : r < p = raise_order j k 0 ls r p a e f in
     absurd (omega (arith, low, high))
