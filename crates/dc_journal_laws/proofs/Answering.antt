@@ -1,12 +1,9 @@
--- The sentences on how the entries of commands follow one another and the orders.
-use Rattle.std.proofs.Common.{◌≡◌, ◌⊎◌, inl, inr, ℕ, ◌<◌, ◌≤◌, List, [], ◌∷◌, ◌++◌, Bool, true, false, Option, Some, None, refl, sym, ap, ◌∙◌, subst, arith}
+-- The sentences on how the entries of commands answer the script.
+use Rattle.std.proofs.Common.{◌≡◌, ◌⊎◌, inl, inr, ℕ, ◌<◌, ◌≤◌, List, ◌∷◌, ◌++◌, Bool, true, false, Some, None, refl, sym, ap, ◌∙◌, subst, arith}
 use Rattle.std.specs.Prelude.{◌==◌, ◌&&◌, not, nat_le, nat_lt, slice_get}
 use Rattle.std.proofs.lemmas.Bool.Decides.{nat_tests}
 use Rattle.std.proofs.lemmas.List.{append_assoc}
 use Rattle.dc_base.specs.declared.images.Image.{Image}
-use Rattle.dc_base.specs.declared.actions.Actor.{Actor}
-use Rattle.dc_base.specs.declared.actions.Actor.TheVariants as actor
-use Rattle.dc_base.specs.declared.commands.Order.{Order}
 use Rattle.dc_base.specs.declared.commands.ScriptLine.{ScriptLine}
 use Rattle.dc_base.specs.declared.entries.Entry.{Entry}
 use Rattle.dc_base.specs.declared.entries.What.{What}
@@ -16,9 +13,10 @@ use Rattle.dc_base.specs.StrikeOut.{clock_told}
 use Rattle.dc_base.specs.Boot.{Registry}
 use Rattle.dc_base.specs.Answers.{Answered, order_in, order_answer, core_answer, may_begin, route_answer, await_answer, script_answer, answered_after}
 use Rattle.dc_base.specs.Runs.{Seen, run_of}
-use Rattle.dc_journal_laws.specs.Entries.{command_line, answers, is_post, posted, carried_out}
-use Rattle.dc_journal_laws.specs.Answering.{goes_on, AnsweredByLine, NoneLeftOut, AnsweredOnce, RoutedAsSaid, MetWithEnough, UnmetWithFewer, StartedInTime, CarriedOutAsPosted, CarriedOutBefore, OneWaits}
-use Rattle.dc_journal_laws.proofs.Prefixes.{around, run_part, clock_is}
+use Rattle.dc_journal_laws.specs.Clocks.{StartedInTime}
+use Rattle.dc_journal_laws.specs.Entries.{command_line, answers, is_post}
+use Rattle.dc_journal_laws.specs.Answering.{goes_on, may_make, MadeByWhoMay, AnsweredByLine, NoneLeftOut, AnsweredOnce, RoutedAsSaid, MetWithEnough, UnmetWithFewer}
+use Rattle.dc_journal_laws.proofs.Prefixes.{around, clock_is}
 use Rattle.dc_journal_laws.proofs.Cases.{Begins, Case, works, carries, begins, posts, does, answers_once, raises, case_of, if_some, routed_by, awaited_by}
 use Rattle.dc_journal_laws.proofs.Lists.{each_of-at}
 use Rattle.dc_journal_laws.proofs.Waits.{Waits, waits}
@@ -46,19 +44,14 @@ module _ (lines : List ScriptLine) (r : Registry) where
       record { place = sym same ∙ begin.place; either = inr (subst (Begins lines a) same begin); carried = λ fresh. fresh begin.fresh }
   answering_case a n e (raises q l x at below there) p h = absurd cc
 
-  -- an order entry is that of the order that waits
-  abbrev Carrying : Answered → Actor → What → Type 0
-  Carrying a (actor.Core c) w = (o : Order) → order_in w ≡ Some o → a.posted ≡ Some (c.0, o)
-  Carrying a actor.Script w = Unit {0}
-
-  carrying_case : (a n : Answered) (e : Entry) → Case lines r a e n → Carrying a e.actor e.what
-  carrying_case a n e (works c u plain none) = λ o h. absurd cc
-  carrying_case a n e (carries c u o plain some at) = λ p h. let same : o ≡ p = cc in at ∙ ap (λ x. Some (c, x)) same
-  carrying_case a n e (begins q c o more answer begin first) = tt
-  carrying_case a n e (posts q c o more begun at none left) = tt
-  carrying_case a n e (does q at begun left none) = tt
-  carrying_case a n e (answers_once q u single begin) = tt
-  carrying_case a n e (raises q l x at below there) = tt
+  made_case : (a n : Answered) (e : Entry) → Case lines r a e n → may_make e.actor e.what ≡ true
+  made_case a n e (works c u plain none) = plain.made
+  made_case a n e (carries c u o plain some at) = plain.made
+  made_case a n e (begins q c o more answer begin first) = refl
+  made_case a n e (posts q c o more begun at none left) = refl
+  made_case a n e (does q at begun left none) = refl
+  made_case a n e (answers_once q u single begin) = ap not single.not_made
+  made_case a n e (raises q l x at below there) = refl
 
 finishes-post : (p q : Bool) → q ≡ true → (p && not q) ≡ true → ⊥
 finishes-post true true e h = let bad : false ≡ true = h in cc
@@ -92,8 +85,7 @@ module _ (image : Image) (lines : List ScriptLine) (journal : List Entry) (h : r
   answered_by_line before between after d e p q same of_d of_e =
       let f = found (before ++ d ∷ between) after e q (regrouped before between after d e same) of_e in
       let was = each_of-at (IsBelow f.seen.answered.place f.seen.answered.begun) before d between f.progress.below p of_d in
-      let here = f.answering.place in
-      (
+      let here = f.answering.place in (
         elim was [ inl b ↦ omega (arith, b, here) | inr b ↦ (let at = b.at in omega (arith, at, here)) ],
         λ last. elim was [ inl b ↦ omega (arith, b, here) | inr b ↦ absurd (finishes-post (answers p d) (is_post d.what) b.post last) ],
       )
@@ -114,25 +106,11 @@ module _ (image : Image) (lines : List ScriptLine) (journal : List Entry) (h : r
         | inr b ↦ elim f.answering.either [ inl t ↦ t.1 | inr begin ↦ absurd (let begun = b.begun in let fresh = begin.fresh in cc) ]
       ]
 
-  pub carried_out_before : CarriedOutBefore image lines journal
-  carried_out_before before after e q same of_e =
-      let f = found before after e q same of_e in f.waits.none (f.answering.carried f.waits.fresh)
-
-  pub carried_out_as_posted : CarriedOutAsPosted image lines journal
-  carried_out_as_posted before after c w o same at =
-      let a = around image lines journal before after (by_core c w) h same in
+  pub made_by_who_may : MadeByWhoMay image lines journal
+  made_by_who_may before after e same =
+      let a = around image lines journal before after e h same in
       let s = a.seen in
-      (waits image lines before s a.run_to).some (c, o)
-      (carrying_case lines s.boot s.answered a.next.answered (by_core c w) (case_of lines s.boot (clock_told s.told) s.answered (by_core c w) a.next.answered a.comes.answered) o at)
-
-  one_waits_by : (before : List Entry) (begun : Bool) (o : Option (ℕ × Order)) → Waits before begun o → (posted before ≡ carried_out before) ⊎ ((p : ℕ × Order) × (posted before ≡ carried_out before ++ p ∷ []))
-  one_waits_by before begun None w = inl (w.none refl)
-  one_waits_by before begun (Some p) w = inr (p, w.some p refl)
-
-  pub one_waits : OneWaits image lines journal
-  one_waits before after same =
-      let part = run_part image lines journal before after h same in
-      one_waits_by before part.0.answered.begun part.0.answered.posted (waits image lines before part.0 part.1)
+      made_case lines s.boot s.answered a.next.answered e (case_of lines s.boot (clock_told s.told) s.answered e a.next.answered a.comes.answered)
 
   pub routed_as_said : RoutedAsSaid image lines journal
   unfolding answered_after script_answer

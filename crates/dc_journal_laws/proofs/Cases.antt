@@ -32,6 +32,7 @@ numbers n m h = grind arith
 
 -- an entry that is no entry of the script
 pub record Plain (w : What) : Type 0 where
+  pub made : is_made_by_core w ≡ true
   pub no_line : command_line w ≡ None
   pub no_post : post_in w ≡ []
   pub no_raise : raise_in w ≡ []
@@ -41,6 +42,7 @@ pub record Single (lines : List ScriptLine) (w : What) (q : ℕ) : Type 0 where
   pub of_line : command_line w ≡ Some q
   pub not_post : is_post w ≡ false
   pub not_on : goes_on w ≡ false
+  pub not_made : is_made_by_core w ≡ false
   pub no_post : post_in w ≡ []
   pub no_raise : raise_in w ≡ []
   pub there : ScriptLine
@@ -76,7 +78,7 @@ plain (what.Raise q l x) h = absurd cc
 plain (what.Route q l c) h = absurd cc
 plain (what.Met q b n) h = absurd cc
 plain (what.Unmet q b n) h = absurd cc
-plain w h = record { no_line = refl; no_post = refl; no_raise = refl }
+plain w h = record { made = h; no_line = refl; no_post = refl; no_raise = refl }
 
 only_if_some : {A : Type 0} (test : Bool) (x y : A) → only_if test x ≡ Some y → (test ≡ true) × (x ≡ y)
 only_if_some false x y h = absurd cc
@@ -238,25 +240,25 @@ module _ (lines : List ScriptLine) (r : Registry) (clock : ℕ → ℕ) (a : Ans
       let t = if_some (may_begin lines a q) (refused_answer lines r a x (slice_get lines q)) n h in
       let f = refused_by q x n (slice_get lines q) refl t.1 in
       once_case q (what.Refused q x) n
-      (record { of_line = refl; not_post = refl; not_on = refl; no_post = refl; no_raise = refl; there = line.Boot f.answer.command; in_script = f.answer.in_script })
+      (record { of_line = refl; not_post = refl; not_on = refl; not_made = refl; no_post = refl; no_raise = refl; there = line.Boot f.answer.command; in_script = f.answer.in_script })
       (begins_by lines a q t.0) f.leaves
   script_case (what.Raise q l x) n h = raise_case q l x n h
   script_case (what.Route q l c) n h =
       let t = if_some (may_begin lines a q) (route_answer lines a l.0 c.0 (slice_get lines q)) n h in
       let f = routed_by q l c n (slice_get lines q) refl t.1 in
-      once_case q (what.Route q l c) n (record { of_line = refl; not_post = refl; not_on = refl; no_post = refl; no_raise = refl; there = line.Route l c; in_script = f.in_script })
+      once_case q (what.Route q l c) n (record { of_line = refl; not_post = refl; not_on = refl; not_made = refl; no_post = refl; no_raise = refl; there = line.Route l c; in_script = f.in_script })
       (begins_by lines a q t.0) f.leaves
   script_case (what.Met q b seen) n h =
       let t = if_some (may_begin lines a q) (await_answer lines a b.0 seen true (slice_get lines q)) n h in
       let f = awaited_by q b seen true n (slice_get lines q) refl t.1 in
       once_case q (what.Met q b seen) n
-      (record { of_line = refl; not_post = refl; not_on = refl; no_post = refl; no_raise = refl; there = line.Await b f.words f.awaits.limit; in_script = f.awaits.in_script })
+      (record { of_line = refl; not_post = refl; not_on = refl; not_made = refl; no_post = refl; no_raise = refl; there = line.Await b f.words f.awaits.limit; in_script = f.awaits.in_script })
       (begins_by lines a q t.0) f.leaves
   script_case (what.Unmet q b seen) n h =
       let t = if_some (may_begin lines a q) (await_answer lines a b.0 seen false (slice_get lines q)) n h in
       let f = awaited_by q b seen false n (slice_get lines q) refl t.1 in
       once_case q (what.Unmet q b seen) n
-      (record { of_line = refl; not_post = refl; not_on = refl; no_post = refl; no_raise = refl; there = line.Await b f.words f.awaits.limit; in_script = f.awaits.in_script })
+      (record { of_line = refl; not_post = refl; not_on = refl; not_made = refl; no_post = refl; no_raise = refl; there = line.Await b f.words f.awaits.limit; in_script = f.awaits.in_script })
       (begins_by lines a q t.0) f.leaves
   script_case w n h = absurd cc
 

@@ -20,8 +20,8 @@ use Rattle.dc_base.specs.Columns.{columns_agree}
 use Rattle.dc_base.specs.Answers.{from_on}
 use Rattle.dc_base.specs.Runs.{terms_of, Seen, seen_start, entry_holds, run, run_of, block_clock}
 use Rattle.dc_base.proofs.RunLaws.{Comes}
-use Rattle.dc_journal_laws.specs.Clocks.{core_clock, block_time}
-use Rattle.dc_journal_laws.specs.Holding.{HeldOnce, block_in, MadeByHolders, AdoptedFree, EndsPairs, StopsEnd, ReleasedInTime, AdoptedInTime}
+use Rattle.dc_journal_laws.specs.Clocks.{core_clock, block_time, ReleasedInTime, AdoptedInTime}
+use Rattle.dc_journal_laws.specs.Holding.{HeldOnce, block_in, MadeByHolders, AdoptedFree, EndsPairs, StopsEnd}
 use Rattle.dc_journal_laws.proofs.Prefixes.{around, run_part, holds_after, holders_are, held-snoc, clock_is, time_is}
 
 pub both : (p q : Bool) → (p && q) ≡ true → (p ≡ true) × (q ≡ true)

@@ -8,4 +8,5 @@ pub mod Progress
 pub mod Raises
 pub mod Booting
 pub mod Answering
+pub mod CarryingOut
 pub mod Raising

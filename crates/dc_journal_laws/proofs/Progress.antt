@@ -152,4 +152,4 @@ module _ (image : Image) (lines : List ScriptLine) where
   unfolding seen_start answered_start
   progress = holds_after image lines (λ before s. Progress before s.answered.place s.answered.begun s.answered.left) starts
       (λ before s e n r comes p. progress_keeps before s.answered n.answered e
-        (subst (λ boot. Case lines boot s.answered e n.answered) (boot_is image lines before s r) (case_of lines s.boot (clock_told s.told) s.answered e n.answered comes.answered)) p)
+      (subst (λ boot. Case lines boot s.answered e n.answered) (boot_is image lines before s r) (case_of lines s.boot (clock_told s.told) s.answered e n.answered comes.answered)) p)

@@ -75,9 +75,9 @@ module _ (lines : List ScriptLine) where
   raises_keep r before a n e (begins q c o more answer begin first) w =
       beside before (by_script (what.Post q c o)) a.place true a.raises refl w.made w.places
       (λ b p l at h.
-        let k = raise_counted lines p l at in
-        let place = begin.place in
-        w.made k.0 p (raise_below lines a.raises k.0 q p begin.above k.1 (omega (arith, h, place))) k.1)
+      let k = raise_counted lines p l at in
+      let place = begin.place in
+      w.made k.0 p (raise_below lines a.raises k.0 q p begin.above k.1 (omega (arith, h, place))) k.1)
   raises_keep r before a n e (posts q c o more begun at none left) w = beside before (by_script (what.Post q c o)) a.place true a.raises refl w.made w.places (λ b. w.above begun)
   raises_keep r before a n e (does q at begun left none) w = beside before (by_script (what.Done q)) _ false a.raises refl w.made w.places (λ b. absurd cc)
   raises_keep r before a n e (answers_once q u single begin) w = beside before (by_script u) _ false a.raises single.no_raise w.made w.places (λ b. absurd cc)

@@ -1,21 +1,29 @@
--- How the entries of commands follow one another and the orders, in sentences over whole journals.
-use Rattle.std.specs.Prelude.{◌≡◌, ◌⊎◌, ℕ, ◌≤◌, ◌<◌, List, [], ◌∷◌, ◌++◌, Bool, true, false, Some, IsTrue, slice_get}
+-- How the entries of commands answer the script, in sentences over whole journals.
+use Rattle.std.specs.Prelude.{◌≡◌, ℕ, ◌≤◌, ◌<◌, List, ◌∷◌, ◌++◌, Bool, true, false, not, Some, IsTrue, slice_get}
 use Rattle.dc_base.specs.declared.images.Image.{Image}
-use Rattle.dc_base.specs.declared.kernels.Version.{Version}
+use Rattle.dc_base.specs.declared.actions.Actor.{Actor}
+use Rattle.dc_base.specs.declared.actions.Actor.TheVariants as actor
 use Rattle.dc_base.specs.declared.numbers.BlockNo.{BlockNo}
 use Rattle.dc_base.specs.declared.numbers.CoreNo.{CoreNo}
 use Rattle.dc_base.specs.declared.numbers.LineNo.{LineNo}
-use Rattle.dc_base.specs.declared.commands.Order.{Order}
 use Rattle.dc_base.specs.declared.commands.ScriptLine.{ScriptLine}
 use Rattle.dc_base.specs.declared.commands.ScriptLine.TheVariants as line
 use Rattle.dc_base.specs.declared.entries.Entry.{Entry}
 use Rattle.dc_base.specs.declared.entries.What.{What}
 use Rattle.dc_base.specs.declared.entries.What.TheVariants as what
-use Rattle.dc_base.specs.Outcomes.{by_core, by_script}
+use Rattle.dc_base.specs.Outcomes.{by_script}
 use Rattle.dc_base.specs.Script.{is_command}
-use Rattle.dc_base.specs.Answers.{order_in}
-use Rattle.dc_journal_laws.specs.Clocks.{core_clock}
-use Rattle.dc_journal_laws.specs.Entries.{command_line, finishes, is_finished, posted, carried_out}
+use Rattle.dc_base.specs.Answers.{is_made_by_core}
+use Rattle.dc_journal_laws.specs.Entries.{command_line, finishes, is_finished}
+
+-- cores make slices, idle entries, wakes, intakes and order entries, and the script all others
+abbrev pub may_make : Actor → What → Bool
+may_make (actor.Core c) w = is_made_by_core w
+may_make actor.Script w = not (is_made_by_core w)
+
+-- each entry was made by one that may make it
+abbrev pub MadeByWhoMay : Image → List ScriptLine → List Entry → Type 0
+MadeByWhoMay image script journal = (before after : List Entry) (e : Entry) → journal ≡ before ++ e ∷ after → IsTrue (may_make e.actor e.what)
 
 -- commands are answered by line number: the lines never fall, and rise after a command's last entry
 abbrev pub AnsweredByLine : Image → List ScriptLine → List Entry → Type 0
@@ -59,22 +67,3 @@ MetWithEnough image script journal =
 abbrev pub UnmetWithFewer : Image → List ScriptLine → List Entry → Type 0
 UnmetWithFewer image script journal =
     (before after : List Entry) (q : ℕ) (b : BlockNo) (seen : ℕ) → journal ≡ before ++ by_script (what.Unmet q b seen) ∷ after → (words : ℕ) × Awaits script q b words × (seen < words)
-
--- a start shows its core's clock
-abbrev pub StartedInTime : Image → List ScriptLine → List Entry → Type 0
-StartedInTime image script journal =
-    (before after : List Entry) (c : ℕ) (v : Version) (clock : ℕ) → journal ≡ before ++ by_core c (what.Start v clock) ∷ after → clock ≡ core_clock image before c
-
--- an order entry of a core is the last order posted, to this core, and all posted before were carried out
-abbrev pub CarriedOutAsPosted : Image → List ScriptLine → List Entry → Type 0
-CarriedOutAsPosted image script journal =
-    (before after : List Entry) (c : ℕ) (w : What) (o : Order) → journal ≡ before ++ by_core c w ∷ after → order_in w ≡ Some o → posted before ≡ carried_out before ++ (c, o) ∷ []
-
--- where a command makes an entry, every order posted is carried out
-abbrev pub CarriedOutBefore : Image → List ScriptLine → List Entry → Type 0
-CarriedOutBefore image script journal = (before after : List Entry) (e : Entry) (q : ℕ) → journal ≡ before ++ e ∷ after → command_line e.what ≡ Some q → posted before ≡ carried_out before
-
--- at each moment at most one order waits to be carried out
-abbrev pub OneWaits : Image → List ScriptLine → List Entry → Type 0
-OneWaits image script journal =
-    (before after : List Entry) → journal ≡ before ++ after → (posted before ≡ carried_out before) ⊎ ((o : ℕ × Order) × (posted before ≡ carried_out before ++ o ∷ []))

@@ -1,6 +1,6 @@
 -- The entries of a whole journal: which line of the script they answer, and which orders they post and carry out.
-use Rattle.std.specs.Prelude.{ℕ, List, [], ◌∷◌, Bool, true, false, ◌&&◌, not, Option, Some, None, if◌then◌else◌, IsTrue}
-use Rattle.std.specs.List.{flat_map, list_any}
+use Rattle.std.specs.Prelude.{ℕ, List, [], ◌∷◌, Bool, true, false, ◌&&◌, not, Option, Some, None, if◌then◌else◌, IsTrue, is_none}
+use Rattle.std.specs.List.{flat_map, list_all, list_any}
 use Rattle.std.specs.Option.{option_map_or}
 use Rattle.dc_base.specs.declared.images.Image.{Image}
 use Rattle.dc_base.specs.declared.actions.Actor.{Actor}
@@ -31,6 +31,10 @@ command_line w = None
 -- whether an entry answers the command in line q
 abbrev pub answers : ℕ → Entry → Bool
 answers q e = is_number q (command_line e.what)
+
+-- no entry is a command's
+abbrev pub no_commands : List Entry → Bool
+no_commands journal = list_all (λ (e : Entry). is_none (command_line e.what)) journal
 
 abbrev pub is_post : What → Bool
 is_post (what.Post q c o) = true

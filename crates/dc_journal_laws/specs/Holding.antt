@@ -1,6 +1,5 @@
 -- Who holds which block, in sentences over whole journals.
 use Rattle.std.specs.Prelude.{◌≡◌, ℕ, ◌+◌, List, [], ◌∷◌, ◌++◌, Bool, Option, Some, None, IsTrue, length}
-use Rattle.std.specs.Option.{option_map}
 use Rattle.dc_base.specs.declared.images.Image.{Image}
 use Rattle.dc_base.specs.declared.numbers.BlockNo.{BlockNo}
 use Rattle.dc_base.specs.declared.commands.ScriptLine.{ScriptLine}
@@ -8,8 +7,7 @@ use Rattle.dc_base.specs.declared.entries.Entry.{Entry}
 use Rattle.dc_base.specs.declared.entries.What.{What}
 use Rattle.dc_base.specs.declared.entries.What.TheVariants as what
 use Rattle.dc_base.specs.Outcomes.{by_core}
-use Rattle.dc_base.specs.Holders.{held, held_by, held_once, holds, is_free, adopted_at}
-use Rattle.dc_journal_laws.specs.Clocks.{core_clock, block_time}
+use Rattle.dc_base.specs.Holders.{held, held_by, held_once, holds, is_free}
 
 -- after each first part of the journal no block stands in two pairs
 abbrev pub HeldOnce : Image → List ScriptLine → List Entry → Type 0
@@ -44,14 +42,3 @@ pub record EndsPairs (c n : ℕ) (before after : List (ℕ × ℕ)) : Type 0 whe
 abbrev pub StopsEnd : Image → List ScriptLine → List Entry → Type 0
 StopsEnd image script journal =
     (before after : List Entry) (c n : ℕ) → journal ≡ before ++ by_core c (what.Stop n) ∷ after → EndsPairs c n (held image before) (held image (before ++ by_core c (what.Stop n) ∷ []))
-
--- a release shows the block's clock
-abbrev pub ReleasedInTime : Image → List ScriptLine → List Entry → Type 0
-ReleasedInTime image script journal =
-    (before after : List Entry) (c : ℕ) (b : BlockNo) (time : ℕ) → journal ≡ before ++ by_core c (what.Release b time) ∷ after → block_time image before b.0 ≡ Some time
-
--- an adopt shows the block's clock where clocks are kept, and where they run the later of it and the core's clock
-abbrev pub AdoptedInTime : Image → List ScriptLine → List Entry → Type 0
-AdoptedInTime image script journal =
-    (before after : List Entry) (c : ℕ) (b : BlockNo) (parked : Bool) (time : ℕ) → journal ≡ before ++ by_core c (what.Adopt b parked time) ∷ after →
-    option_map (λ clock. adopted_at image.clocks clock (core_clock image before c)) (block_time image before b.0) ≡ Some time

@@ -3,4 +3,5 @@ pub mod Clocks
 pub mod Holding
 pub mod Booting
 pub mod Answering
+pub mod CarryingOut
 pub mod Raising
