@@ -37,13 +37,13 @@ NoneLeftOut image script journal =
     (before after : List Entry) (e : Entry) (p q : ℕ) (l : ScriptLine) → journal ≡ before ++ e ∷ after → command_line e.what ≡ Some q →
     slice_get script p ≡ Some l → IsTrue (is_command l) → p < q → IsTrue (is_finished p before)
 
--- what comes after a post of the same command is a post or done
+-- a post or done
 abbrev pub goes_on : What → Bool
 goes_on (what.Post q c o) = true
 goes_on (what.Done q) = true
 goes_on w = false
 
--- a command has one entry, or posts and then done
+-- an entry of a command that has made one before is a post or done
 abbrev pub AnsweredOnce : Image → List ScriptLine → List Entry → Type 0
 AnsweredOnce image script journal =
     (before between after : List Entry) (d e : Entry) (q : ℕ) → journal ≡ before ++ d ∷ (between ++ e ∷ after) → command_line d.what ≡ Some q → command_line e.what ≡ Some q → IsTrue (goes_on e.what)
