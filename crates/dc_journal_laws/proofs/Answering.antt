@@ -53,7 +53,7 @@ module _ (lines : List ScriptLine) (r : Registry) where
   made_case a n e (answers_once q u single begin) = ap not single.not_made
   made_case a n e (raises q l x at below there) = refl
 
-finishes-post : (p q : Bool) → q ≡ true → (p && not q) ≡ true → ⊥
+pub finishes-post : (p q : Bool) → q ≡ true → (p && not q) ≡ true → ⊥
 finishes-post true true e h = let bad : false ≡ true = h in cc
 finishes-post false true e h = let bad : false ≡ true = h in cc
 finishes-post p false e h = cc

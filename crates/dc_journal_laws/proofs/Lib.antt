@@ -10,3 +10,6 @@ pub mod Booting
 pub mod Answering
 pub mod CarryingOut
 pub mod Raising
+pub mod Standing
+pub mod ExactHolding
+pub mod ExactPlaces

@@ -5,3 +5,4 @@ pub mod Booting
 pub mod Answering
 pub mod CarryingOut
 pub mod Raising
+pub mod Whole
