@@ -17,7 +17,7 @@ use Rattle.dc_base.specs.Boot.{booted_at}
 use Rattle.dc_base.specs.Answers.{needs_on, from_on, from_on_by}
 use Rattle.dc_base.specs.Runs.{Seen, run, block_clock, boot_state}
 use Rattle.dc_journal_laws.specs.Clocks.{core_clock, block_time}
-use Rattle.dc_journal_laws.specs.Whole.{IsSaid}
+use Rattle.dc_journal_laws.specs.Whole.{SentencesHold}
 use Rattle.dc_journal_laws.proofs.Prefixes.{holders_are, held-snoc, clock_is, time_is, boot_is}
 
 pub same_number : (n m : ℕ) → n ≡ m → (n == m) ≡ true
@@ -31,7 +31,7 @@ and_true true true h k = refl
 and_true true false h k = k
 and_true false q h k = h
 
-module _ (image : Image) (lines : List ScriptLine) (journal : List Entry) (said : IsSaid image lines journal) (before after : List Entry) (s : Seen) (r : run image lines before ≡ Some s) where
+module _ (image : Image) (lines : List ScriptLine) (journal : List Entry) (said : SentencesHold image lines journal) (before after : List Entry) (s : Seen) (r : run image lines before ≡ Some s) where
   -- a block's clock, where the sentences tell it
   time_shown : (b time : ℕ) → block_time image before b ≡ Some time → time ≡ block_clock s.blocks b
   time_shown b time h = let known = time_is image lines before s r b in cc

@@ -16,7 +16,7 @@ use Rattle.dc_base.specs.Answers.{Answered, answered_start, is_above, may_begin}
 use Rattle.dc_base.specs.Runs.{Seen, seen_start, run}
 use Rattle.dc_journal_laws.specs.Entries.{command_line, answers, is_post, finishes, is_finished, is_begun, posted, carried_out}
 use Rattle.dc_journal_laws.specs.Answering.{goes_on}
-use Rattle.dc_journal_laws.specs.Whole.{IsSaid}
+use Rattle.dc_journal_laws.specs.Whole.{SentencesHold}
 use Rattle.dc_journal_laws.proofs.Prefixes.{holds_after}
 use Rattle.dc_journal_laws.proofs.Cases.{Case, works, carries, begins, posts, does, answers_once, raises, case_of}
 use Rattle.dc_journal_laws.proofs.Lists.{each_of-at}
@@ -38,7 +38,7 @@ place_case lines r a n e (does q there begun left none) at = (a.place + 1, refl)
 place_case lines r a n e (answers_once q u single begin) at = (a.place + 1, refl)
 place_case lines r a n e (raises q l x there below line) at = at
 
-place_is : (image : Image) (lines : List ScriptLine) (before : List Entry) (s : Seen) → run image lines before ≡ Some s → (k : ℕ) × (s.answered.place ≡ next_command lines k)
+pub place_is : (image : Image) (lines : List ScriptLine) (before : List Entry) (s : Seen) → run image lines before ≡ Some s → (k : ℕ) × (s.answered.place ≡ next_command lines k)
 unfolding seen_start answered_start
 place_is image lines = holds_after image lines (λ before s. (k : ℕ) × (s.answered.place ≡ next_command lines k)) (0, refl)
     (λ before s e n r comes at. place_case lines s.boot s.answered n.answered e (case_of lines s.boot (clock_told s.told) s.answered e n.answered comes.answered) at)
@@ -54,7 +54,7 @@ not_true : (p : Bool) → (p ≡ true → ⊥) → p ≡ false
 not_true true h = absurd (h refl)
 not_true false h = refl
 
-module _ (image : Image) (lines : List ScriptLine) (journal : List Entry) (said : IsSaid image lines journal) (before after : List Entry) (s : Seen) (r : run image lines before ≡ Some s) where
+module _ (image : Image) (lines : List ScriptLine) (journal : List Entry) (said : SentencesHold image lines journal) (before after : List Entry) (s : Seen) (r : run image lines before ≡ Some s) where
   pub so_far : Progress image lines before s.answered.place s.answered.begun s.answered.left
   so_far = progress image lines before s r
 

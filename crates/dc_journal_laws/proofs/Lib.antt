@@ -13,3 +13,6 @@ pub mod Raising
 pub mod Standing
 pub mod ExactHolding
 pub mod ExactPlaces
+pub mod ExactAnswers
+pub mod ExactRaises
+pub mod Exact

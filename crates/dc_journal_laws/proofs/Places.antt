@@ -124,6 +124,9 @@ raise_none (suc j) (suc k) n (line.Boot c ∷ ls) h e = raise_none (suc j) (suc 
 raise_none (suc j) (suc k) n (line.Route l c ∷ ls) h e = raise_none (suc j) (suc k) (n + 1) ls h e
 raise_none (suc j) (suc k) n (line.Await b w m ∷ ls) h e = raise_none (suc j) (suc k) (n + 1) ls h e
 
+pub next_none : (ls : List ScriptLine) (j k : ℕ) → j ≤ k → next_raise ls j ≡ None → next_raise ls k ≡ None
+next_none ls j k h e = raise_none j k 0 ls h e
+
 pub data Order3 (i j : ℕ) : Type 0 where
   is_less : i < j → Order3 i j
   is_equal : i ≡ j → Order3 i j

@@ -53,7 +53,7 @@ module _ (image : Image) (lines : List ScriptLine) where
       let parts = bind_some (run_from terms lines start before) (λ t. run_from terms lines t after) whole.0 (sym (run_from-append terms lines start before after) ∙ whole.1) in
       (parts.0, parts.1)
 
-  run_snoc : (before : List Entry) (s : Seen) (e : Entry) (n : Seen) → run image lines before ≡ Some s → run_step (terms_of image) lines s e ≡ Some n → run image lines (before ++ e ∷ []) ≡ Some n
+  pub run_snoc : (before : List Entry) (s : Seen) (e : Entry) (n : Seen) → run image lines before ≡ Some s → run_step (terms_of image) lines s e ≡ Some n → run image lines (before ++ e ∷ []) ≡ Some n
   unfolding run
   run_snoc before s e n r g =
       let terms = terms_of image in

@@ -28,7 +28,8 @@ ColumnsAgree image script journal =
     (before after : List Entry) (e : Entry) (s : Blocks) → journal ≡ before ++ e ∷ after → blocks_run image (struck image before) ≡ Some s →
     IsTrue (columns_agree image.quantum (told_from (told_start image) before) s e)
 
-pub record IsSaid (image : Image) (script : List ScriptLine) (journal : List Entry) : Type 0 where
+-- each sentence holds of the journal
+pub record SentencesHold (image : Image) (script : List ScriptLine) (journal : List Entry) : Type 0 where
   pub blocks : BlocksRun image script journal
   pub columns : ColumnsAgree image script journal
   pub held_once : HeldOnce image script journal

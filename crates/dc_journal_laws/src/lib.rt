@@ -1,6 +1,11 @@
 //! What every run says as a whole journal: who holds which block, which cores are on, and how the script is answered. Each law is the contract of a function that does nothing.
 #![tactic(auto)]
 
+ghost use Rattle.std.specs.Prelude.{◌↔◌, List, IsTrue};
+ghost use Rattle.dc_base.specs.declared.images.Image.{Image};
+ghost use Rattle.dc_base.specs.declared.commands.ScriptLine.{ScriptLine};
+ghost use Rattle.dc_base.specs.declared.entries.Entry.{Entry};
+ghost use Rattle.dc_base.specs.Runs.{run_of};
 ghost use Rattle.dc_journal_laws.specs.Entries.{InEachRun};
 ghost use Rattle.dc_journal_laws.specs.Clocks.{ReleasedInTime, AdoptedInTime, StartedInTime};
 ghost use Rattle.dc_journal_laws.specs.Holding.{HeldOnce, MadeByHolders, AdoptedFree, StopsEnd};
@@ -8,6 +13,7 @@ ghost use Rattle.dc_journal_laws.specs.Booting.{MadeByCoresOn, RefusedByTable, P
 ghost use Rattle.dc_journal_laws.specs.Answering.{MadeByWhoMay, AnsweredByLine, NoneLeftOut, AnsweredOnce, RoutedAsSaid, MetWithEnough, UnmetWithFewer};
 ghost use Rattle.dc_journal_laws.specs.CarryingOut.{CarriedOutAsPosted, CarriedOutBefore, CarriedOutOnce, OneAtMost};
 ghost use Rattle.dc_journal_laws.specs.Raising.{RaisedAsSaid, RaisedByLine, NoRaiseLeftOut, RaisedAfterCommands, AnsweredAfterRaises};
+ghost use Rattle.dc_journal_laws.specs.Whole.{SentencesHold};
 
 /// Each block has at most one holder; what is done to a block is done by its holder, an adopted block had none, and a stop ends the pairs of its core.
 pub fn blocks_have_one_holder()
@@ -62,4 +68,9 @@ pub fn raises_come_by_line()
     ensures none_left_out { InEachRun NoRaiseLeftOut }
     ensures after_commands { InEachRun RaisedAfterCommands }
     ensures before_commands { InEachRun AnsweredAfterRaises }
+{}
+
+/// A journal is a run exactly where its events are a run of the machine of blocks, the columns of its entries agree with that machine, and the sentences above hold of it.
+pub fn sentences_say_what_runs_are()
+    ensures { (image : Image) (script : List ScriptLine) (journal : List Entry) → IsTrue (run_of image script journal) ↔ SentencesHold image script journal }
 {}
