@@ -20,7 +20,7 @@ use Rattle.dc_base.specs.Runs.{run_of}
 use Rattle.dc_journal_laws.specs.Entries.{command_line, no_commands, post_in, posted, carried_in, carried_out}
 use Rattle.dc_journal_laws.specs.CarryingOut.{CarriedOutAsPosted, CarriedOutBefore, CarriedOutOnce, OneAtMost}
 use Rattle.dc_journal_laws.proofs.Prefixes.{around, run_part}
-use Rattle.dc_journal_laws.proofs.Holding.{both}
+use Rattle.dc_journal_laws.proofs.Tests.{both}
 use Rattle.dc_journal_laws.proofs.Cases.{Case, works, carries, begins, posts, does, answers_once, raises, case_of}
 use Rattle.dc_journal_laws.proofs.Waits.{Waits, waits}
 use Rattle.dc_journal_laws.proofs.Answering.{found}

@@ -25,10 +25,7 @@ use Rattle.dc_base.proofs.SameLaws.{is_same_order-equal, is_same_refusal-equal}
 use Rattle.dc_journal_laws.specs.Entries.{command_line, is_post, post_in, raise_in}
 use Rattle.dc_journal_laws.specs.Booting.{IsAnsweredBy}
 use Rattle.dc_journal_laws.specs.Answering.{goes_on, Awaits}
-use Rattle.dc_journal_laws.proofs.Holding.{both}
-
-numbers : (n m : ℕ) → n == m ≡ true → n ≡ m
-numbers n m h = grind arith
+use Rattle.dc_journal_laws.proofs.Tests.{both, numbers}
 
 -- an entry that is no entry of the script
 pub record Plain (w : What) : Type 0 where

@@ -15,13 +15,14 @@ use Rattle.dc_base.specs.Answers.{Answered, answered_after, from_on}
 use Rattle.dc_base.specs.Runs.{terms_of, Seen, seen_start, seen_after, block_clock, entry_holds, run_step, run_from, run, run_of}
 use Rattle.dc_base.proofs.RunLaws.{run_on-append, run-struck}
 use Rattle.dc_journal_laws.specs.Whole.{told_from, ColumnsAgree, SentencesHold}
+use Rattle.dc_journal_laws.proofs.Tests.{and_true, both}
 use Rattle.dc_journal_laws.proofs.Prefixes.{some_of, around, run_snoc, holds_after}
-use Rattle.dc_journal_laws.proofs.Holding.{both, held_once-each, made_by_holders, adopted_free, stops_end, released_in_time, adopted_in_time}
+use Rattle.dc_journal_laws.proofs.Holding.{held_once-each, made_by_holders, adopted_free, stops_end, released_in_time, adopted_in_time}
 use Rattle.dc_journal_laws.proofs.Booting.{made_by_cores_on, refused_by_table, posted_in_order, done_in_full}
 use Rattle.dc_journal_laws.proofs.Answering.{made_by_who_may, answered_by_line, none_left_out, answered_once, routed_as_said, met_with_enough, unmet_with_fewer, started_in_time}
 use Rattle.dc_journal_laws.proofs.CarryingOut.{carried_out_as_posted, carried_out_before}
 use Rattle.dc_journal_laws.proofs.Raising.{raised_as_said, raised_by_line, no_raise_left_out, raised_after_commands, answered_after_raises}
-use Rattle.dc_journal_laws.proofs.ExactHolding.{and_true, well}
+use Rattle.dc_journal_laws.proofs.ExactHolding.{well}
 use Rattle.dc_journal_laws.proofs.ExactRaises.{answered_some}
 
 told_from-append : (t : Told) (es fs : List Entry) → told_from t (es ++ fs) ≡ told_from (told_from t es) fs
@@ -99,11 +100,11 @@ module _ (image : Image) (lines : List ScriptLine) where
         let events = events_of s.told e.actor e.what in
         let more = struck_from (told_after s.told e) after in
         let whole : is_some (blocks_run image (struck image before ++ (events ++ more))) ≡ true =
-            ap (λ xs. is_some (blocks_run image (struck_from start before ++ xs))) (ap (λ t. struck_from t (e ∷ after)) (told_is before s r))
-            ∙ ap (λ xs. is_some (blocks_run image xs)) (sym (struck_from-append start before (e ∷ after)))
-            ∙ ap (λ es. is_some (blocks_run image (struck_from start es))) (sym same) ∙ said.blocks in
+        ap (λ xs. is_some (blocks_run image (struck_from start before ++ xs))) (ap (λ t. struck_from t (e ∷ after)) (told_is before s r))
+        ∙ ap (λ xs. is_some (blocks_run image xs)) (sym (struck_from-append start before (e ∷ after)))
+        ∙ ap (λ es. is_some (blocks_run image (struck_from start es))) (sym same) ∙ said.blocks in
         let here : is_some (run_on s.blocks (events ++ more)) ≡ true =
-            ap (λ o. is_some (bind o (λ t. run_on t (events ++ more)))) (sym (run-struck image lines before s r)) ∙ ap is_some (sym (run_on-append _ (struck image before) (events ++ more))) ∙ whole in
+        ap (λ o. is_some (bind o (λ t. run_on t (events ++ more)))) (sym (run-struck image lines before s r)) ∙ ap is_some (sym (run_on-append _ (struck image before) (events ++ more))) ∙ whole in
         first_part (run_on s.blocks events) (λ t. run_on t more) (ap is_some (sym (run_on-append s.blocks events more)) ∙ here)
 
     holds_now : (before after : List Entry) (s : Seen) (e : Entry) → run image lines before ≡ Some s → journal ≡ before ++ e ∷ after → entry_holds (terms_of image) s e ≡ true

@@ -33,7 +33,7 @@ use Rattle.dc_journal_laws.specs.Whole.{SentencesHold}
 use Rattle.dc_journal_laws.proofs.Prefixes.{boot_is, clock_is}
 use Rattle.dc_journal_laws.proofs.Lists.{EachOf, before_command-none}
 use Rattle.dc_journal_laws.proofs.Progress.{IsBelow, none_of, none_posted}
-use Rattle.dc_journal_laws.proofs.ExactHolding.{same_number, and_true}
+use Rattle.dc_journal_laws.proofs.Tests.{same_number, and_true}
 use Rattle.dc_journal_laws.proofs.ExactPlaces.{so_far, none_waits, some_waits, at_place, is_fresh, may}
 
 pub some_if : {A : Type 0} (test : Bool) (x : A) → test ≡ true → is_some (only_if test x) ≡ true
@@ -111,8 +111,6 @@ module _ (image : Image) (lines : List ScriptLine) (journal : List Entry) (said 
   pub post_some : (q : ℕ) (c : CoreNo) (o : Order) → journal ≡ before ++ by_script (what.Post q c o) ∷ after → is_some (post_answer lines s.boot s.answered q c.0 o) ≡ true
   post_some q c o same = by s.answered.begun refl
     where
-
-
       here : q ≡ s.answered.place
       here = at_place image lines journal said before after s r (by_script (what.Post q c o)) q (line.Boot (said.posted before after q c o same).1.answer.command) same refl (said.posted before after q c o same).1.answer.in_script refl
 

@@ -1,5 +1,5 @@
 -- A journal of which the sentences hold goes on: its entries are well held.
-use Rattle.std.proofs.Common.{◌≡◌, ℕ, List, [], ◌∷◌, ◌++◌, Bool, true, false, Some, refl, sym, ap, ◌∙◌, rules}
+use Rattle.std.proofs.Common.{◌≡◌, ℕ, List, [], ◌∷◌, ◌++◌, Bool, true, false, Some, refl, sym, ap, ◌∙◌}
 use Rattle.std.specs.Prelude.{◌==◌, ◌&&◌, not, ◌||◌, length, is_some}
 use Rattle.std.specs.Option.{option_map}
 use Rattle.std.proofs.lemmas.List.{append_assoc}
@@ -18,18 +18,8 @@ use Rattle.dc_base.specs.Answers.{needs_on, from_on, from_on_by}
 use Rattle.dc_base.specs.Runs.{Seen, run, block_clock, boot_state}
 use Rattle.dc_journal_laws.specs.Clocks.{core_clock, block_time}
 use Rattle.dc_journal_laws.specs.Whole.{SentencesHold}
+use Rattle.dc_journal_laws.proofs.Tests.{and_true, same_number}
 use Rattle.dc_journal_laws.proofs.Prefixes.{holders_are, held-snoc, clock_is, time_is, boot_is}
-
-pub same_number : (n m : ℕ) → n ≡ m → (n == m) ≡ true
-same_number n m h = rw h same
-  where
-    same : (m == m) ≡ true
-    same = search rules
-
-pub and_true : (p q : Bool) → p ≡ true → q ≡ true → (p && q) ≡ true
-and_true true true h k = refl
-and_true true false h k = k
-and_true false q h k = h
 
 module _ (image : Image) (lines : List ScriptLine) (journal : List Entry) (said : SentencesHold image lines journal) (before after : List Entry) (s : Seen) (r : run image lines before ≡ Some s) where
   -- a block's clock, where the sentences tell it
@@ -48,7 +38,7 @@ module _ (image : Image) (lines : List ScriptLine) (journal : List Entry) (said 
   holds_core c (what.Adopt b parked time) same =
       let clock = core_clock image before c in
       let shown : time ≡ adopted_at image.clocks (block_clock s.blocks b.0) clock =
-          (let told = sym (ap (λ o. option_map (λ t. adopted_at image.clocks t clock) o) (time_is image lines before s r b.0)) ∙ said.adopted_time before after c b parked time same in cc) in
+      (let told = sym (ap (λ o. option_map (λ t. adopted_at image.clocks t clock) o) (time_is image lines before s r b.0)) ∙ said.adopted_time before after c b parked time same in cc) in
       and_true (is_free (held image before) b.0) (time == adopted_at image.clocks (block_clock s.blocks b.0) clock) (said.adopted before after c b parked time same)
       (same_number time (adopted_at image.clocks (block_clock s.blocks b.0) clock) shown)
   holds_core c (what.Stop n) same = same_number n (length (held_by c (held image before))) (said.stopped before after c n same).held
@@ -73,7 +63,7 @@ module _ (image : Image) (lines : List ScriptLine) (journal : List Entry) (said 
   well e same =
       let need = holds_for_by image.clocks s.told.holders (block_clock s.blocks) (clock_told s.told) e.actor e.what in
       let once : held_once (held_after s.told.holders e) ≡ true =
-          ap (λ pairs. held_once (held_after pairs e)) (holders_are image lines before s r) ∙ ap held_once (sym (held-snoc image before e))
-          ∙ said.held_once (before ++ e ∷ []) after (same ∙ sym (append_assoc before (e ∷ []) after)) in
+      ap (λ pairs. held_once (held_after pairs e)) (holders_are image lines before s r) ∙ ap held_once (sym (held-snoc image before e))
+      ∙ said.held_once (before ++ e ∷ []) after (same ∙ sym (append_assoc before (e ∷ []) after)) in
       and_true (need && held_once (held_after s.told.holders e)) (from_on_by s.boot e.actor e.what)
       (and_true need (held_once (held_after s.told.holders e)) (holds_by e.actor e.what same) once) (from_on_of e.actor e.what same)

@@ -26,7 +26,7 @@ use Rattle.dc_journal_laws.proofs.Progress.{IsBelow, Progress, progress}
 use Rattle.dc_journal_laws.proofs.Raises.{Raises, raises_are}
 use Rattle.dc_journal_laws.proofs.Answering.{finishes-post}
 use Rattle.dc_journal_laws.proofs.Standing.{stands, line_of, line_of_last, next_is, there_above, raise_line, only_made}
-use Rattle.dc_journal_laws.proofs.ExactHolding.{same_number, and_true}
+use Rattle.dc_journal_laws.proofs.Tests.{same_number, and_true}
 
 -- the place is that of a next command
 place_case : (lines : List ScriptLine) (r : Registry) (a n : Answered) (e : Entry) → Case lines r a e n → (k : ℕ) × (a.place ≡ next_command lines k) → (k : ℕ) × (n.place ≡ next_command lines k)

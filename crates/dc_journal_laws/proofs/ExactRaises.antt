@@ -25,7 +25,7 @@ use Rattle.dc_journal_laws.proofs.Lists.{EachOf, each_of-at, NoneOf}
 use Rattle.dc_journal_laws.proofs.Places.{next_later, next_none, next_raise-order, raise_counted, Order3, is_less, is_equal, is_more, order3}
 use Rattle.dc_journal_laws.proofs.Progress.{IsBelow, none_of}
 use Rattle.dc_journal_laws.proofs.Standing.{stands, line_of, next_is, there_above, raise_line, only_made, raise_stands}
-use Rattle.dc_journal_laws.proofs.ExactHolding.{same_number, and_true}
+use Rattle.dc_journal_laws.proofs.Tests.{same_number, and_true}
 use Rattle.dc_journal_laws.proofs.ExactPlaces.{place_is, so_far, made_so_far, apart}
 use Rattle.dc_journal_laws.proofs.ExactAnswers.{some_if, core_some, post_some, done_some, refused_some, route_some, met_some, unmet_some}
 

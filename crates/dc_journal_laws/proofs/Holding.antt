@@ -22,14 +22,8 @@ use Rattle.dc_base.specs.Runs.{terms_of, Seen, seen_start, entry_holds, run, run
 use Rattle.dc_base.proofs.RunLaws.{Comes}
 use Rattle.dc_journal_laws.specs.Clocks.{core_clock, block_time, ReleasedInTime, AdoptedInTime}
 use Rattle.dc_journal_laws.specs.Holding.{HeldOnce, block_in, MadeByHolders, AdoptedFree, EndsPairs, StopsEnd}
+use Rattle.dc_journal_laws.proofs.Tests.{both, numbers}
 use Rattle.dc_journal_laws.proofs.Prefixes.{around, run_part, holds_after, holders_are, held-snoc, clock_is, time_is}
-
-pub both : (p q : Bool) → (p && q) ≡ true → (p ≡ true) × (q ≡ true)
-both true q h = (refl, h)
-both false q h = absurd (let bad : false ≡ true = h in cc)
-
-numbers : (n m : ℕ) → n == m ≡ true → n ≡ m
-numbers n m h = grind arith
 
 -- the homes from n on are of blocks from n on
 homes-free_by : (k n : ℕ) (bs : List BlockImage) (home : Option CoreNo) → k < n → is_free (homes_from (n + 1) bs) k ≡ true →

@@ -1,3 +1,4 @@
+pub mod Tests
 pub mod Prefixes
 pub mod Holding
 pub mod Cases

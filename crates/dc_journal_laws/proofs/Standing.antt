@@ -12,7 +12,7 @@ use Rattle.dc_base.specs.declared.entries.What.TheVariants as what
 use Rattle.dc_base.specs.Words.{is_number, lists}
 use Rattle.dc_base.specs.Script.{is_command, command_from, next_command, raise_from, next_raise}
 use Rattle.dc_journal_laws.specs.Entries.{command_line, answers, is_post, finishes, raise_in, raised}
-use Rattle.dc_journal_laws.proofs.Holding.{both}
+use Rattle.dc_journal_laws.proofs.Tests.{both, numbers}
 use Rattle.dc_journal_laws.proofs.Lists.{EachOf}
 use Rattle.dc_journal_laws.proofs.Raises.{IsMade}
 
@@ -32,9 +32,6 @@ stands_by p e es false at more h = let s = more h in record { before = e ∷ s.b
 pub stands : (p : Entry → Bool) (es : List Entry) → list_any p es ≡ true → Stands p es
 stands p [] h = absurd (let bad : false ≡ true = h in cc)
 stands p (e ∷ es) h = stands_by p e es (p e) refl (stands p es) h
-
-numbers : (n m : ℕ) → n == m ≡ true → n ≡ m
-numbers n m h = grind arith
 
 number_of : (q : ℕ) (o : Option ℕ) → is_number q o ≡ true → o ≡ Some q
 number_of q None h = absurd (let bad : false ≡ true = h in cc)
