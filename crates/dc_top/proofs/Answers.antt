@@ -1,5 +1,5 @@
 -- What was written, with its status, is what a call answers.
-use Rattle.std.proofs.Common.{◌≡◌, ◌≢◌, ◌⊎◌, ◌<◌, ◌≤◌, ℕ, List, [], refl, sym, ap, ◌∙◌, subst, arith, Option, Some, None, Result, Ok, Err, replicate}
+use Rattle.std.proofs.Common.{◌≡◌, ◌≢◌, ◌⊎◌, ◌<◌, ◌≤◌, ℕ, List, [], refl, sym, ap, ◌∙◌, subst, arith, inl, inr, Option, Some, None, Result, Ok, Err, replicate}
 use Rattle.std.specs.Prelude.{OnErr, IfSome}
 use Rattle.dc_base.specs.declared.images.Image.{Image}
 use Rattle.dc_base.specs.Results.{◌>>=◌}
@@ -27,10 +27,10 @@ writes_as f g a b status text (Ok x) w rose = whole w
 writes_as f g a b status text (Err failed) w rose = part rose w
 
 module _ (image script schedule : List ℕ) (files : List ℕ → List ℕ) (call : Call) where
-  V : Verdict
+  abbrev pub V : Verdict
   V = play_verdict (files image) (files script) (files schedule)
 
-  W : ℕ → List ℕ → ℕ → Type 0
+  abbrev pub W : ℕ → List ℕ → ℕ → Type 0
   W = λ status text result. WritesAs call.sink_faults call.sink_faults_after call.told call.told_after status text result
 
   verdict_told : (result : ℕ) → W V.status V.text result → PlayAnswers image script schedule files call result
@@ -52,15 +52,70 @@ ready_verdict image script schedule s n r =
     ∙ ap (λ (x : Result ℕ Verdict). either_verdict (x >>= (λ k. Ok (done (play_text r.machine [] (replicate k step_action)))))) r.schedule_read
     ∙ ap done (sym (played_text-image r.machine n s r.start))
 
--- what stands of a status, whatever is told
-pub whole_status : (f g : ℕ) (a b : Option (List ℕ)) (status : ℕ) (text : List ℕ) (result : ℕ) → status ≢ 6 → WritesAs f g a b status text result → result ≡ 6 → Rose f g
-whole_status f g a b status text result not_6 (whole adds) is_6 = absurd (not_6 is_6)
-whole_status f g a b status text result not_6 (part rose prefix) is_6 = rose
+-- a refusal has a status from 2 to 4
+status_of_file : (r : Refusal) → (1 < status_of r) × (status_of r ≤ 4)
+status_of_file (why.Image f) = (omega arith, omega arith)
+status_of_file why.ImageNotBuilt = (omega arith, omega arith)
+status_of_file why.ScriptTooLong = (omega arith, omega arith)
+status_of_file why.ScriptNotBuilt = (omega arith, omega arith)
+status_of_file why.ScheduleTooLong = (omega arith, omega arith)
+status_of_file why.ScheduleNotBuilt = (omega arith, omega arith)
 
-pub listed : (f g : ℕ) (a b : Option (List ℕ)) (status : ℕ) (text : List ℕ) (result : ℕ) → IsPlayStatus status → WritesAs f g a b status text result → IsPlayStatus result
-listed f g a b status text result is (whole adds) = is
-listed f g a b status text result is (part rose prefix) = cc
+-- the status of a text, whole or not
+whole_or_6 : (f g : ℕ) (a b : Option (List ℕ)) (status : ℕ) (text : List ℕ) (result : ℕ) → WritesAs f g a b status text result → (result ≡ status) ⊎ ((result ≡ 6) × Rose f g)
+whole_or_6 f g a b status text result (whole adds) = inl refl
+whole_or_6 f g a b status text result (part rose prefix) = inr (refl, rose)
 
-pub not_other : (f g : ℕ) (a b : Option (List ℕ)) (status : ℕ) (text : List ℕ) (result other : ℕ) → status ≢ other → other ≢ 6 → WritesAs f g a b status text result → result ≢ other
-not_other f g a b status text result other not not_6 (whole adds) = not
-not_other f g a b status text result other not not_6 (part rose prefix) = λ h. not_6 (sym h)
+module _ (image script schedule : List ℕ) where
+  pub played_answers : (files : Files) (call : Call) (s : State) (n : ℕ) (r : Result (Unit {0}) Failed) → IfSome files (λ f. IsReady (f image) (f script) (f schedule) s n) →
+      Writes call.told call.told_after (played_text (steps_run s n)) r → OnErr r (Rose call.sink_faults call.sink_faults_after) → IfSome files (λ f. PlayAnswers image script schedule f call (status_for r 0))
+  played_answers None call s n r ready w rose = cc
+  played_answers (Some f) call s n r ready w rose =
+      verdict_answers image script schedule f call (done (played_text (steps_run s n))) (status_for r 0) (ready_verdict (f image) (f script) (f schedule) s n ready)
+      (writes_as call.sink_faults call.sink_faults_after call.told call.told_after 0 (played_text (steps_run s n)) r w rose)
+
+  pub halt_answers : (files : Files) (call : Call) (h : Halt) (result : ℕ) → Halts files image script schedule call.shelf_faults call.shelf_faults_after h →
+      HaltTold h image script schedule call.sink_faults call.sink_faults_after call.told call.told_after result → IfSome files (λ f. PlayAnswers image script schedule f call result)
+  halt_answers None call h result e w = cc
+  halt_answers (Some f) call (halt.Refused r) result e w = verdict_answers image script schedule f call (verdict_of r) result e w
+  halt_answers (Some f) call (halt.Unread v) result e w = unread_answers image script schedule f call (name_of v image script schedule) result e.1 e.0 w
+  halt_answers (Some f) call halt.Memory result e w = subst (λ (n : ℕ). PlayAnswers image script schedule f call n) (sym w.0) (no_memory w.1)
+
+  module _ (files : Files) (before now f g : ℕ) (a b : Option (List ℕ)) where
+    pub halt_read_fault : (h : Halt) (result : ℕ) → Halts files image script schedule before now h → HaltTold h image script schedule f g a b result → result ≡ 5 → Rose before now
+    halt_read_fault (halt.Refused r) result e w is_5 =
+        let low = status_of_file r in
+        elim (whole_or_6 f g a b (status_of r) (ended (line_of r)) result w) [ inl same ↦ absurd (omega (arith, same, is_5, low)) | inr other ↦ absurd (omega (arith, other.0, is_5)) ]
+    halt_read_fault (halt.Unread v) result e w is_5 = e.0
+    halt_read_fault halt.Memory result e w is_5 = absurd (omega (arith, w.0, is_5))
+
+    pub halt_write_fault : (h : Halt) (result : ℕ) → HaltTold h image script schedule f g a b result → result ≡ 6 → Rose f g
+    halt_write_fault (halt.Refused r) result w is_6 =
+        let low = status_of_file r in
+        elim (whole_or_6 f g a b (status_of r) (ended (line_of r)) result w) [ inl same ↦ absurd (omega (arith, same, is_6, low)) | inr other ↦ other.1 ]
+    halt_write_fault (halt.Unread v) result w is_6 =
+        elim (whole_or_6 f g a b 5 (ended (read_fault_line (name_of v image script schedule))) result w) [ inl same ↦ absurd (omega (arith, same, is_6)) | inr other ↦ other.1 ]
+    halt_write_fault halt.Memory result w is_6 = absurd (omega (arith, w.0, is_6))
+
+    pub halt_no_memory : (h : Halt) (result : ℕ) → HaltTold h image script schedule f g a b result → result ≡ 7 → b ≡ a
+    halt_no_memory (halt.Refused r) result w is_7 =
+        let low = status_of_file r in
+        elim (whole_or_6 f g a b (status_of r) (ended (line_of r)) result w) [ inl same ↦ absurd (omega (arith, same, is_7, low)) | inr other ↦ absurd (omega (arith, other.0, is_7)) ]
+    halt_no_memory (halt.Unread v) result w is_7 =
+        elim (whole_or_6 f g a b 5 (ended (read_fault_line (name_of v image script schedule))) result w) [ inl same ↦ absurd (omega (arith, same, is_7)) | inr other ↦ absurd (omega (arith, other.0, is_7)) ]
+    halt_no_memory halt.Memory result w is_7 = w.1
+
+    -- a halt has a status from 2 to 7
+    halt_status : (h : Halt) (result : ℕ) → HaltTold h image script schedule f g a b result → (1 < result) × (result ≤ 7)
+    halt_status (halt.Refused r) result w =
+        let low = status_of_file r in
+        elim (whole_or_6 f g a b (status_of r) (ended (line_of r)) result w) [ inl same ↦ (omega (arith, same, low), omega (arith, same, low)) | inr other ↦ (omega (arith, other.0), omega (arith, other.0)) ]
+    halt_status (halt.Unread v) result w =
+        elim (whole_or_6 f g a b 5 (ended (read_fault_line (name_of v image script schedule))) result w) [ inl same ↦ (omega (arith, same), omega (arith, same)) | inr other ↦ (omega (arith, other.0), omega (arith, other.0)) ]
+    halt_status halt.Memory result w = (omega (arith, w.0), omega (arith, w.0))
+
+    pub halt_listed : (h : Halt) (result : ℕ) → HaltTold h image script schedule f g a b result → IsPlayStatus result
+    halt_listed h result w = inr (halt_status h result w)
+
+    pub halt_not_done : (h : Halt) (result : ℕ) → HaltTold h image script schedule f g a b result → result ≡ 0 → ⊥
+    halt_not_done h result w is_0 = let low = (halt_status h result w).0 in omega (arith, low, is_0)

@@ -1,4 +1,7 @@
 mod Answers
+mod Headlines
+mod Readings
+mod Loading
 pub mod FirstEndLaws
 pub mod FirstLaws
 pub mod FirstReports

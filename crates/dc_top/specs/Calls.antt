@@ -1,7 +1,15 @@
 -- What the top calls promise.
-use Rattle.std.specs.Prelude.{◌≡◌, ◌⊎◌, ◌≤◌, ◌<◌, ℕ, List, Option, IsOk}
+use Rattle.std.specs.Prelude.{◌≡◌, ◌⊎◌, ◌≤◌, ◌<◌, ℕ, List, [], ◌++◌, Option, Some, Ok, IsOk}
+use Rattle.dc_base.specs.declared.images.Image.{Image}
+use Rattle.dc_base.specs.declared.commands.ScriptLine.{ScriptLine}
+use Rattle.dc_base.specs.declared.entries.Entry.{Entry}
+use Rattle.dc_base.specs.declared.reports.ReportLine.{ReportLine}
 use Rattle.dc_base.specs.TextWords.{ended}
+use Rattle.dc_base.specs.EntryText.{journal_text}
+use Rattle.dc_base.specs.JournalText.{journal_of}
+use Rattle.dc_base.specs.ReportText.{report_text}
 use Rattle.dc_base.specs.FaultText.{read_fault_line}
+use Rattle.dc_base.specs.Headline.{IsReportedRun}
 use Rattle.dc_io.specs.Counts.{Rose}
 use Rattle.dc_io.specs.Told.{Adds, AddsPrefix}
 use Rattle.dc_top.specs.Verdict.{play_verdict, inputs_read, image_read}
@@ -38,3 +46,20 @@ pub data PlayAnswers (image script schedule : List ℕ) (files : List ℕ → Li
 -- 0, or 2 to 7
 abbrev pub IsPlayStatus : ℕ → Type 0
 IsPlayStatus status = (status ≡ 0) ⊎ ((1 < status) × (status ≤ 7))
+
+-- a text that begins with a journal and its report: the journal, read back, is a run of the image and the script up to what the report shows
+pub record IsReportedText (image : Image) (script : List ScriptLine) (text : List ℕ) : Type 0 where
+  pub journal : List Entry
+  pub report : List ReportLine
+  pub rest : List ℕ
+  pub spelled : text ≡ journal_text journal ++ report_text report ++ rest
+  pub read : journal_of text ≡ Ok journal
+  pub reported : IsReportedRun image script journal report
+
+-- the text tells a run of the machine that these two files describe
+abbrev pub TellsRun : (image script text : List ℕ) → Type 0
+TellsRun image script text = (i : Image) × (inputs_read image script ≡ Ok i) × IsReportedText i [] text
+
+-- where the files are told, and the bytes taken so far, this holds of the files and of what the call has written
+abbrev pub Wrote : Option (List ℕ → List ℕ) → Option (List ℕ) → Option (List ℕ) → ((List ℕ → List ℕ) → List ℕ → Type 0) → Type 0
+Wrote shelf before after P = (files : List ℕ → List ℕ) (taken : List ℕ) → shelf ≡ Some files → before ≡ Some taken → (text : List ℕ) × (after ≡ Some (taken ++ text)) × P files text

@@ -1,8 +1,9 @@
 -- Why nothing is played, by the files.
-use Rattle.std.specs.Prelude.{◌≡◌, ◌<◌, ℕ, length, List, [], Option, IfSome, Result, Ok, Err, ⊤, ⊥}
+use Rattle.std.specs.Prelude.{◌≡◌, ◌<◌, ℕ, length, List, [], Option, IfSome, Result, Ok, Err, ⊤}
 use Rattle.dc_base.specs.declared.images.Image.{Image}
 use Rattle.dc_base.specs.States.{State, core_start}
 use Rattle.dc_base.specs.TextWords.{longest_file, ended}
+use Rattle.dc_base.specs.Valid.{IsValid}
 use Rattle.dc_base.specs.FaultText.{read_fault_line}
 use Rattle.dc_io.specs.Counts.{Rose}
 use Rattle.dc_top.specs.declared.refusals.Refusal.{Refusal}
@@ -63,11 +64,13 @@ RefusedBy read halt.Memory = ⊤
 pub record IsStartOf (bytes : List ℕ) (s : State) : Type 0 where
   pub image : Image
   pub read : image_read bytes ≡ Ok image
+  pub valid : IsValid image
   pub start : s ≡ core_start image []
 
 -- the start of the image, and the steps, of files that are accepted
 pub record IsReady (image script schedule : List ℕ) (s : State) (steps : ℕ) : Type 0 where
   pub machine : Image
   pub inputs : inputs_read image script ≡ Ok machine
+  pub valid : IsValid machine
   pub start : s ≡ core_start machine []
   pub schedule_read : schedule_read schedule ≡ Ok steps

@@ -1,7 +1,7 @@
 -- What the words of a command ask for.
 use Rattle.std.specs.Prelude.{ℕ, List, [], ◌∷◌, if◌then◌else◌, Option, Some, None, IfSome, MatchOption}
 use Rattle.dc_base.specs.TextWords.{is_word, ended}
-use Rattle.dc_top.specs.Calls.{Call, PlayAnswers}
+use Rattle.dc_top.specs.Calls.{Call, PlayAnswers, TellsRun, Wrote}
 use Rattle.dc_top.specs.Refusals.{usage}
 use Rattle.dc_top.specs.Written.{WritesAs}
 
@@ -23,3 +23,8 @@ RequestAnswers files call status (play image script schedule) = PlayAnswers imag
 -- what the words ask for is answered, where the files are told
 abbrev pub CommandAnswers : List (List ℕ) → Option (List ℕ → List ℕ) → Call → ℕ → Type 0
 CommandAnswers words files call status = MatchOption (request_of words) (UsageTold call status) (λ request. IfSome files (λ f. RequestAnswers f call status request))
+
+-- what was written for a request that was done tells a run of the files that it names
+abbrev pub RequestTold : Option (List ℕ → List ℕ) → Option (List ℕ) → Option (List ℕ) → Option Request → Type 0
+RequestTold shelf before after None = ⊥
+RequestTold shelf before after (Some (play image script schedule)) = Wrote shelf before after (λ files text. TellsRun (files image) (files script) text)

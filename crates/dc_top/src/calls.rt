@@ -1,8 +1,8 @@
 //! The top calls.
 
-ghost use Rattle.std.specs.Prelude.{◌≡◌, ◌<◌, ◌≤◌, IfSome};
+ghost use Rattle.std.specs.Prelude.{◌≡◌, IfSome};
 ghost use Rattle.dc_io.specs.Counts.{Rose};
-ghost use Rattle.dc_top.specs.Calls.{IsPlayStatus, PlayAnswers};
+ghost use Rattle.dc_top.specs.Calls.{IsPlayStatus, PlayAnswers, TellsRun, Wrote};
 ghost use Rattle.dc_top.specs.Halts.{HaltTold, name_of};
 ghost use Rattle.dc_top.specs.Written as spec;
 
@@ -10,7 +10,10 @@ use crate::first::playing::play;
 use crate::halts::{Halt, Which};
 use crate::loads::load_play;
 use crate::refusals::{put_read_fault, put_refusal, status_of};
+use dc_headline::every_run_is_reported;
 use dc_io::{Failed, Shelf, Sink};
+use dc_ranges::entries_are_in_range;
+use dc_spelling::what_is_spelled_is_read;
 use std::alloc::Global;
 
 /// The status where the text was written whole, and 6 where a put failed.
@@ -34,6 +37,7 @@ fn name_of<'a>(which: Which, image: &'a str, script: &'a str, schedule: &'a str)
 }
 
 /// Writes why nothing is played, and says the status.
+#[tactic(auto, using(crate::proofs::Answers::writes_as))]
 fn tell<S: Sink>(halt: Halt, image: &str, script: &str, schedule: &str, sink: &mut S) -> u8
     ensures told { HaltTold halt image.now script.now schedule.now (S.faults sink.old) (S.faults sink.new) (S.told sink.old) (S.told sink.new) result }
 {
@@ -50,6 +54,7 @@ fn tell<S: Sink>(halt: Halt, image: &str, script: &str, schedule: &str, sink: &m
 /// Loads and reads an image, a script and a schedule, and stops at the first fault; then plays the schedule, and writes the journal and the report, one line a piece.
 /// The answer is a status: 0 where the whole text was written; 2, 3 or 4 where the image, the script or the schedule is refused, with a line that says why; 5 where a
 /// file could not be read, with a line that names it; 6 where a put failed, with a part of the text that belongs to the case; 7 where memory was wanting, with nothing.
+#[tactic(auto, using(crate::proofs::Answers::played_answers, crate::proofs::Answers::halt_answers, crate::proofs::Answers::halt_read_fault, crate::proofs::Answers::halt_write_fault, crate::proofs::Answers::halt_no_memory, crate::proofs::Answers::halt_listed))]
 pub fn play_call<H: Shelf, S: Sink>(
     alloc: Global,
     shelf: &mut H,
@@ -58,6 +63,9 @@ pub fn play_call<H: Shelf, S: Sink>(
     script: &str,
     schedule: &str,
 ) -> u8
+    // At status 0 the text written tells a run of the image and the script, from its first entry to its report.
+    ensures headline { result ≡ 0 → Wrote (H.told shelf.old) (S.told sink.old) (S.told sink.new) (λ files text. TellsRun (files image.now) (files script.now) text) }
+    // Each status has its cause, and what was written with it.
     ensures answers { IfSome (H.told shelf.old) (λ files. PlayAnswers image.now script.now schedule.now files
         (record {
           shelf_faults = H.faults shelf.old;
@@ -73,6 +81,9 @@ pub fn play_call<H: Shelf, S: Sink>(
     ensures no_memory { result ≡ 7 → S.told sink.new ≡ S.told sink.old }
     ensures listed { IsPlayStatus result }
 {
+    every_run_is_reported();
+    entries_are_in_range();
+    what_is_spelled_is_read();
     match load_play(alloc, image, script, schedule, shelf) {
         Ok((machine, steps)) => status_for(play(machine, steps, sink), 0),
         Err(halt) => tell(halt, image, script, schedule, sink),

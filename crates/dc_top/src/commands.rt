@@ -4,7 +4,7 @@ ghost use Rattle.std.specs.Prelude.{◌≡◌, ◌≤◌, map, string_bytes};
 ghost use Rattle.dc_base.specs.TextWords.{ended};
 ghost use Rattle.dc_io.specs.Counts.{Rose};
 ghost use Rattle.dc_top.specs.Refusals.{usage};
-ghost use Rattle.dc_top.specs.Requests.{CommandAnswers};
+ghost use Rattle.dc_top.specs.Requests.{CommandAnswers, RequestTold, request_of};
 ghost use Rattle.dc_top.specs.Written.{WritesAs};
 
 use crate::calls::{play_call, status_for};
@@ -15,6 +15,7 @@ use std::alloc::Global;
 const USAGE: &str = "usage: dc play IMAGE SCRIPT SCHEDULE\n";
 
 /// Writes the forms of the command line.
+#[tactic(auto, using(crate::proofs::Answers::writes_as))]
 fn tell_usage<S: Sink>(sink: &mut S) -> u8
     ensures told { WritesAs (S.faults sink.old) (S.faults sink.new) (S.told sink.old) (S.told sink.new) 1 (ended usage) result }
 {
@@ -30,6 +31,9 @@ pub fn command<H: Shelf, S: Sink, G: Gate>(
     sink: &mut S,
     _gate: &G,
 ) -> u8
+    // At status 0 the words have a form, and the text written tells a run of the files that they name.
+    ensures headline { result ≡ 0 → RequestTold (H.told shelf.old) (S.told sink.old) (S.told sink.new) (request_of (map string_bytes words.now)) }
+    // Each status has its cause, and what was written with it.
     ensures answers { CommandAnswers (map string_bytes words.now) (H.told shelf.old)
         (record {
           shelf_faults = H.faults shelf.old;

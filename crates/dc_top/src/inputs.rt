@@ -33,6 +33,7 @@ fn image_in(alloc: Global, bytes: &[u8]) -> Result<Image, Halt>
 }
 
 /// The machine of an image, at its start.
+#[tactic(auto, using(crate::proofs::Readings::image_started, crate::proofs::Readings::image_not_first, crate::proofs::Readings::image_refused_first))]
 pub fn machine_of(alloc: Global, bytes: &[u8]) -> Result<FirstMachine, Halt>
     ensures machine { IfOk result (λ m. IsStartOf bytes.now (state_of m)) }
     ensures refused { IfErr result (RefusedBy (image_read bytes.now)) }
@@ -49,6 +50,7 @@ pub fn machine_of(alloc: Global, bytes: &[u8]) -> Result<FirstMachine, Halt>
 }
 
 /// Whether a script has no line that counts.
+#[tactic(auto, using(crate::proofs::Readings::script_accepted, crate::proofs::Readings::script_refused))]
 pub fn accept_script(bytes: &[u8]) -> Result<(), Halt>
     requires { length bytes.now ≤ longest_file }
     ensures accepted { OnOk result (script_read bytes.now ≡ Ok tt) }
@@ -62,6 +64,7 @@ pub fn accept_script(bytes: &[u8]) -> Result<(), Halt>
 }
 
 /// How many steps a schedule asks for.
+#[tactic(auto, using(crate::proofs::Readings::steps_read, crate::proofs::Readings::steps_refused, crate::proofs::Readings::steps_few))]
 pub fn steps_of(bytes: &[u8]) -> Result<usize, Halt>
     requires { length bytes.now ≤ longest_file }
     ensures steps { IfOk result (λ steps. schedule_read bytes.now ≡ Ok steps) }

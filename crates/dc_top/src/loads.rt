@@ -39,6 +39,7 @@ fn load<H: Shelf>(
 }
 
 /// The machine of an image file, at its start.
+#[tactic(auto, using(crate::proofs::Loading::image_misses, crate::proofs::Loading::image_refuses, crate::proofs::Loading::image_serves))]
 fn load_machine<H: Shelf>(alloc: Global, name: &str, shelf: &mut H) -> Result<FirstMachine, Halt>
     ensures machine { IfOk result (λ m. IfSome (H.told shelf.old) (λ files. IsStartOf (files name.now) (state_of m))) }
     ensures halts { IfErr result (HaltsAt which.Image (H.told shelf.old) image_read name.now (H.faults shelf.old) (H.faults shelf.new)) }
@@ -53,6 +54,7 @@ fn load_machine<H: Shelf>(alloc: Global, name: &str, shelf: &mut H) -> Result<Fi
 }
 
 /// Whether a script file has no line that counts.
+#[tactic(auto, using(crate::proofs::Loading::script_misses, crate::proofs::Loading::script_refuses, crate::proofs::Loading::script_serves))]
 fn load_script<H: Shelf>(alloc: Global, name: &str, shelf: &mut H) -> Result<(), Halt>
     ensures script { OnOk result (IfSome (H.told shelf.old) (λ files. script_read (files name.now) ≡ Ok tt)) }
     ensures halts { IfErr result (HaltsAt which.Script (H.told shelf.old) script_read name.now (H.faults shelf.old) (H.faults shelf.new)) }
@@ -66,6 +68,7 @@ fn load_script<H: Shelf>(alloc: Global, name: &str, shelf: &mut H) -> Result<(),
 }
 
 /// How many steps a schedule file asks for.
+#[tactic(auto, using(crate::proofs::Loading::schedule_misses, crate::proofs::Loading::schedule_refuses, crate::proofs::Loading::schedule_serves))]
 fn load_schedule<H: Shelf>(alloc: Global, name: &str, shelf: &mut H) -> Result<usize, Halt>
     ensures steps { IfOk result (λ steps. IfSome (H.told shelf.old) (λ files. schedule_read (files name.now) ≡ Ok steps)) }
     ensures few { IfOk result (λ steps. steps < 2 ^ 62) }
@@ -80,6 +83,7 @@ fn load_schedule<H: Shelf>(alloc: Global, name: &str, shelf: &mut H) -> Result<u
 }
 
 /// The machine of an image at its start, and the steps that a schedule asks for, of three files.
+#[tactic(auto, using(crate::proofs::Loading::image_halts, crate::proofs::Loading::script_halts, crate::proofs::Loading::schedule_halts, crate::proofs::Loading::all_serve))]
 pub fn load_play<H: Shelf>(
     alloc: Global,
     image: &str,

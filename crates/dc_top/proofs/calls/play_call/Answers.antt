@@ -1,0 +1,45 @@
+use Rattle.std.proofs.Common.{◌≡◌, ℕ, subst, sym}
+use Rattle.std.specs.Prelude.{IfSome}
+use Rattle.dc_top.specs.Calls.{Call, PlayAnswers}
+use Rattle.dc_top.specs.First.{state_of}
+use Rattle.dc_top.proofs.Answers.{played_answers, halt_answers, halt_not_done}
+use Rattle.dc_top.proofs.Headlines.{played_tells}
+use Rattle.dc_top.proofs.calls.play_call.Goals as goal
+
+pub returns-in-Ok-clause-answers : goal.returns-in-Ok-clause-answers
+returns-in-Ok-clause-answers g c =
+    let call : Call = record {
+          shelf_faults = g.H.Shelf.faults c.args.shelf.now;
+          shelf_faults_after = g.H.Shelf.faults c.load_play.new.shelf;
+          sink_faults = g.S.Sink.faults c.args.sink.now;
+          sink_faults_after = g.S.Sink.faults c.play.new.sink;
+          told = g.S.Sink.told c.args.sink.now;
+          told_after = g.S.Sink.told c.play.new.sink;
+        }
+    in
+    subst (λ (n : ℕ). IfSome (g.H.Shelf.told c.args.shelf.now) (λ files. PlayAnswers c.args.image.now c.args.script.now c.args.schedule.now files call n)) (sym c.status_for.ensures)
+    (played_answers c.args.image.now c.args.script.now c.args.schedule.now (g.H.Shelf.told c.args.shelf.now) call (state_of c.in-Ok.machine) c.in-Ok.steps c.play.result c.in-Ok.ensures.ready c.play.ensures.writes
+    c.play.ensures.failed)
+
+pub returns-in-Err-clause-answers : goal.returns-in-Err-clause-answers
+returns-in-Err-clause-answers g c =
+    let call : Call = record {
+          shelf_faults = g.H.Shelf.faults c.args.shelf.now;
+          shelf_faults_after = g.H.Shelf.faults c.load_play.new.shelf;
+          sink_faults = g.S.Sink.faults c.args.sink.now;
+          sink_faults_after = g.S.Sink.faults c.tell.new.sink;
+          told = g.S.Sink.told c.args.sink.now;
+          told_after = g.S.Sink.told c.tell.new.sink;
+        }
+    in halt_answers c.args.image.now c.args.script.now c.args.schedule.now (g.H.Shelf.told c.args.shelf.now) call c.in-Err.halt c.tell.result c.in-Err.ensures.halts c.tell.ensures.told
+
+pub returns-in-Ok-clause-headline : goal.returns-in-Ok-clause-headline
+returns-in-Ok-clause-headline g c =
+    played_tells c.every_run_is_reported.ensures.reported c.entries_are_in_range.ensures.lines c.entries_are_in_range.ensures.ranges c.what_is_spelled_is_read.ensures c.args.image.now c.args.script.now
+    c.args.schedule.now (g.H.Shelf.told c.args.shelf.now) (g.S.Sink.told c.args.sink.now) (g.S.Sink.told c.play.new.sink) (state_of c.in-Ok.machine) c.in-Ok.steps c.play.result c.status_for.result
+    c.in-Ok.ensures.ready c.play.ensures.writes c.status_for.ensures
+
+pub returns-in-Err-clause-headline : goal.returns-in-Err-clause-headline
+returns-in-Err-clause-headline g c = λ is_0.
+    absurd (halt_not_done c.args.image.now c.args.script.now c.args.schedule.now (g.H.Shelf.told c.args.shelf.now) (g.H.Shelf.faults c.args.shelf.now) (g.H.Shelf.faults c.load_play.new.shelf) (g.S.Sink.faults c.args.sink.now)
+    (g.S.Sink.faults c.tell.new.sink) (g.S.Sink.told c.args.sink.now) (g.S.Sink.told c.tell.new.sink) c.in-Err.halt c.tell.result c.tell.ensures.told is_0)
