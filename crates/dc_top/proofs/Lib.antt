@@ -1,4 +1,5 @@
 mod Answers
+mod Commanding
 mod Headlines
 mod Readings
 mod Loading

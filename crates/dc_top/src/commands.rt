@@ -1,7 +1,7 @@
 //! The command line.
 
-ghost use Rattle.std.specs.Prelude.{◌≡◌, ◌≤◌, map, string_bytes};
-ghost use Rattle.dc_base.specs.TextWords.{ended};
+ghost use Rattle.std.specs.Prelude.{◌≡◌, ◌≤◌, [], ◌∷◌, map, string_bytes};
+ghost use Rattle.dc_base.specs.TextWords.{ended, is_word};
 ghost use Rattle.dc_io.specs.Counts.{Rose};
 ghost use Rattle.dc_top.specs.Refusals.{usage};
 ghost use Rattle.dc_top.specs.Requests.{CommandAnswers, RequestTold, request_of};
@@ -22,8 +22,48 @@ fn tell_usage<S: Sink>(sink: &mut S) -> u8
     status_for(put_text(sink, USAGE.as_bytes()), 1)
 }
 
+fn is_play(form: &str) -> bool
+    ensures { result ≡ is_word "play" form.now }
+{
+    form.as_bytes() == b"play".as_slice()
+}
+
+/// Does what a form with three words behind its name asks for.
+#[tactic(auto, using(crate::proofs::Commanding::play_answered, crate::proofs::Commanding::play_told, crate::proofs::Commanding::usage_answered))]
+fn command_of_three<H: Shelf, S: Sink>(
+    alloc: Global,
+    shelf: &mut H,
+    sink: &mut S,
+    form: &str,
+    first: &str,
+    second: &str,
+    third: &str,
+) -> u8
+    ensures headline { result ≡ 0 → RequestTold (H.told shelf.old) (S.told sink.old) (S.told sink.new) (request_of (form.now ∷ first.now ∷ second.now ∷ third.now ∷ [])) }
+    ensures answers { CommandAnswers (form.now ∷ first.now ∷ second.now ∷ third.now ∷ []) (H.told shelf.old)
+        (record {
+          shelf_faults = H.faults shelf.old;
+          shelf_faults_after = H.faults shelf.new;
+          sink_faults = S.faults sink.old;
+          sink_faults_after = S.faults sink.new;
+          told = S.told sink.old;
+          told_after = S.told sink.new;
+        }) result }
+    ensures read_fault { result ≡ 5 → Rose (H.faults shelf.old) (H.faults shelf.new) }
+    ensures write_fault { result ≡ 6 → Rose (S.faults sink.old) (S.faults sink.new) }
+    ensures no_memory { result ≡ 7 → S.told sink.new ≡ S.told sink.old }
+    ensures listed { result ≤ 7 }
+{
+    if is_play(form) {
+        play_call(alloc, shelf, sink, first, second, third)
+    } else {
+        tell_usage(sink)
+    }
+}
+
 /// Does what the words of a command line, those behind the program's name, ask for. The one form is `play IMAGE SCRIPT SCHEDULE`; words of another form are answered
 /// by the usage line and 1, and a status of the call else. The gate is for cores that run in threads of their own; no form has these yet.
+#[tactic(auto, using(crate::proofs::Commanding::no_form_answered))]
 pub fn command<H: Shelf, S: Sink, G: Gate>(
     alloc: Global,
     words: &[String],
@@ -50,13 +90,14 @@ pub fn command<H: Shelf, S: Sink, G: Gate>(
     ensures listed { result ≤ 7 }
 {
     match words {
-        [form, image, script, schedule] if form.as_str() == "play" => play_call(
+        [form, first, second, third] => command_of_three(
             alloc,
             shelf,
             sink,
-            image.as_str(),
-            script.as_str(),
-            schedule.as_str(),
+            form.as_str(),
+            first.as_str(),
+            second.as_str(),
+            third.as_str(),
         ),
         _ => tell_usage(sink),
     }
