@@ -58,7 +58,7 @@ module _ (reported : Reported) (lines : EachEntry has_line) (ranges : EachEntry 
     spelled = parts_of (core_run i [] schedule);
     read = ap journal_of (behind_journal (core_run i [] schedule))
         ∙ reads (core_run i [] schedule).journal (report_text (report_lines (core_run i [] schedule).state) ++ (ended (skipped_text (core_run i [] schedule).skipped) ++ ended end_text))
-          (lines i [] schedule valid (no_script i)) (ranges i [] schedule valid (no_script i)) (report_follows (core_run i [] schedule));
+        (lines i [] schedule valid (no_script i)) (ranges i [] schedule valid (no_script i)) (report_follows (core_run i [] schedule));
     reported = reported i [] schedule valid (no_script i);
   }
 

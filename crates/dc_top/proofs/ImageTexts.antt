@@ -16,8 +16,3 @@ steps_run-core_run image n = refl
 pub played_text-image : (image : Image) (n : ℕ) (s : State) → s ≡ core_start image [] → played_text (steps_run s n) ≡ play_text image [] (replicate n step_action)
 unfolding play_text
 played_text-image image n s h = ap (λ (t : State). played_text (steps_run t n)) h ∙ ap played_text (steps_run-core_run image n)
-
-pub state_there : (image : Image) (o : Option First) (f : First) → o ≡ Some f → MatchOption o (is_first_image image ≡ false) (λ g. (is_first_image image ≡ true) × (state_of g ≡ core_start image [])) → state_of f ≡ core_start image []
-state_there image o f h m =
-    let there = subst (λ (x : Option First). MatchOption x (is_first_image image ≡ false) (λ g. (is_first_image image ≡ true) × (state_of g ≡ core_start image []))) h m in
-    there.1

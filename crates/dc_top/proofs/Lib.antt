@@ -10,7 +10,6 @@ pub mod FirstStarts
 pub mod RunTexts
 mod Rises
 mod ReportTexts
-pub mod Hellos
 mod ImageTexts
 mod PlayTexts
 mod TextLines

@@ -121,7 +121,7 @@ module _ (image script schedule : List ℕ) where
   schedule_by (Some f) s before then now (halt.Unread w) start read le e = (
     rose_since before then now le e.1,
     subst (λ (v : Which). FaultOf image script schedule f (name_of v image script schedule)) (sym e.0)
-    (at_schedule (is_ok (inputs_read (f image) (f script)) start.image (both_read (f image) (f script) start.image start.read read))),
+        (at_schedule (is_ok (inputs_read (f image) (f script)) start.image (both_read (f image) (f script) start.image start.read read))),
   )
   schedule_by files s before then now halt.Memory start read le e = cc
 

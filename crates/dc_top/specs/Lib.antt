@@ -6,7 +6,6 @@ pub mod FirstLines
 pub mod FirstReport
 pub mod FirstSteps
 pub mod Halts
-pub mod Hello
 pub mod Playing
 pub mod Refusals
 pub mod Requests

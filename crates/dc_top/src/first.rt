@@ -6,7 +6,3 @@ pub(crate) mod lines;
 pub(crate) mod machine;
 pub(crate) mod playing;
 mod reports;
-mod runs;
-
-pub use lines::{has_no_lines, steps_in};
-pub use runs::{NotPlayed, play_image};

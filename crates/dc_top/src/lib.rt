@@ -1,4 +1,4 @@
-//! What `play` is made of: a run written whole, the lines of scripts and schedules, and the lines of refusals.
+//! The top calls: a play of three files, and the command line.
 #![tactic(auto)]
 
 mod calls;
@@ -14,5 +14,3 @@ mod writing;
 
 pub use calls::play_call;
 pub use commands::command;
-pub use first::{NotPlayed, has_no_lines, play_image, steps_in};
-pub use refusals::{Refusal, put_read_fault, put_refusal, status_of};

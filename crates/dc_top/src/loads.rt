@@ -76,7 +76,13 @@ fn load_schedule<H: Shelf>(alloc: Global, name: &str, shelf: &mut H) -> Result<u
     ensures kept { H.told shelf.new ≡ H.told shelf.old }
     ensures grows { H.faults shelf.old ≤ H.faults shelf.new }
 {
-    match load(alloc, name, shelf, Which::Schedule, Refusal::ScheduleTooLong) {
+    match load(
+        alloc,
+        name,
+        shelf,
+        Which::Schedule,
+        Refusal::ScheduleTooLong,
+    ) {
         Ok(bytes) => steps_of(bytes.as_slice()),
         Err(halt) => Err(halt),
     }

@@ -1,16 +1,17 @@
-ghost use Rattle.std.specs.Prelude.{◌≡◌, ◌≤◌, IfOk};
-ghost use Rattle.dc_top.specs.Hello.{hello_code, hello_image};
-
-use crate::{NotPlayed, play_image};
-use dc_base::images::{BlockImage, CoreImage, DispImage, Image};
-use dc_base::kernels::{Clocks, Version};
+use crate::{command, play_call};
 use dc_base::lists::Items;
-use dc_base::numbers::CoreNo;
-use dc_io::MemSink;
+use dc_io::{MemFile, MemShelf, MemSink, Open};
 use std::alloc::{AllocError, Global};
+use std::process::Abort;
 use std::test::Fail;
 
-// The text that the example `hello` has to write.
+// The head of an image of one core and one block.
+const BARE: &str =
+    "format = 1\nquantum = 4\nslices = 100\n[[core]]\nversion = \"rr\"\n[[block]]\nhome = 0\n[[block.disp]]\n";
+
+const HELLO: &str = "code = \"li r0 7\\nout r0\\nhalt\"";
+
+// What the hello example writes in three steps.
 const EXPECTED: &str = "\
 0 core 0 slice 0 0 fired 0 ran 1 call out clock 2
 1 core 0 slice 0 0 fired 0 ran 1 halt clock 3
@@ -24,54 +25,74 @@ skipped 1
 end
 ";
 
-// The words `li r0 7`, `out r0` and `halt`.
-fn code(alloc: Global) -> Result<Vec<u32>, AllocError>
-    ensures { IfOk result (λ code. code.items ≡ hello_code) }
-{
-    let mut code = Vec::new(alloc);
-    code.push(0x01000007)?;
-    code.push(0x20000000)?;
-    code.push(0x14000000)?;
-    Ok(code)
+// The lines of a report of one core, one block and one dispatcher that has put out nothing.
+const AT_START: &str = "\
+report
+core 0 on rr clock 0 home 0 share 0 used 0
+block 0 core 0 time 0 armed 0
+disp 0 0 ready place 0 due 0
+ready 0 0
+skipped 0
+end
+";
+
+const TRAP_1: &str = "\
+0 core 0 slice 0 0 fired 0 ran 0 trap 1 clock 1
+report
+core 0 on rr clock 1 home 0 share 0 used 1
+block 0 core 0 time 1 armed 0
+disp 0 0 trap 1 place 0 due 0
+ready 0 -
+skipped 0
+end
+";
+
+const TRAP_2: &str = "\
+0 core 0 slice 0 0 fired 0 ran 1 trap 2 clock 1
+report
+core 0 on rr clock 1 home 0 share 0 used 1
+block 0 core 0 time 1 armed 0
+disp 0 0 trap 2 place 1 due 0
+ready 0 -
+skipped 0
+end
+";
+
+const TRAP_4: &str = "\
+0 core 0 slice 0 0 fired 0 ran 0 trap 4 clock 1
+report
+core 0 on rr clock 1 home 0 share 0 used 1
+block 0 core 0 time 1 armed 0
+disp 0 0 trap 4 place 0 due 0
+ready 0 -
+skipped 0
+end
+";
+
+const STEP: &str = "core 0 step\n";
+
+const THREE_STEPS: &str = "core 0 step\n# a comment\n\ncore 0 step\ncore 00 step";
+
+fn file(alloc: Global, name: &[u8], bytes: &[u8]) -> Result<MemFile, AllocError> {
+    Ok(MemFile {
+        name: Items::from_vec(name.to_vec(alloc)?),
+        bytes: Items::from_vec(bytes.to_vec(alloc)?),
+    })
 }
 
-// The image of the example `hello`, with so many lines.
-fn hello(alloc: Global, lines: u32) -> Result<Image, AllocError>
-    requires { lines ≤ 16 }
-    ensures { IfOk result (λ image. image ≡ hello_image lines) }
-{
-    let disp = DispImage {
-        code: Items::from_vec(code(alloc)?),
-        period: 1,
-        due: 0,
-        caps: Items::new(alloc),
-    };
-    let mut disps = Items::new(alloc);
-    disps.push(disp)?;
-    let block = BlockImage {
-        home: Some(CoreNo(0)),
-        memory: Items::new(alloc),
-        ports: 0,
-        signals: 0,
-        disps,
-    };
-    let mut blocks = Items::new(alloc);
-    blocks.push(block)?;
-    let mut cores = Items::new(alloc);
-    cores.push(CoreImage {
-        base: 0,
-        version: Some(Version::Rr),
-    })?;
-    Ok(Image {
-        format: 1,
-        clocks: Clocks::Kept,
-        quantum: 4,
-        slices: 100,
-        lines,
-        cores,
-        blocks,
-        channels: Items::new(alloc),
-    })
+// An image, a script and a schedule by these names; the load of this number fails.
+fn shelf(
+    alloc: Global,
+    image: &str,
+    script: &str,
+    schedule: &str,
+    failing: u64,
+) -> Result<MemShelf, AllocError> {
+    let mut files = Vec::new(alloc);
+    files.push(file(alloc, b"image", image.as_bytes())?)?;
+    files.push(file(alloc, b"script", script.as_bytes())?)?;
+    files.push(file(alloc, b"schedule", schedule.as_bytes())?)?;
+    Ok(MemShelf::of(files, vec![in alloc; failing]?))
 }
 
 // A sink in memory whose put of this number fails.
@@ -79,41 +100,139 @@ fn sink(alloc: Global, failing: u64) -> Result<MemSink, Fail> {
     Ok(MemSink::with_room(alloc, 4096, vec![in alloc; failing]?).map_err(|_| "no memory")?)
 }
 
-#[test]
-fn the_hello_example_writes_its_expected_text(rt: HostRuntime) -> Result<(), Fail> {
-    let alloc = rt.alloc();
-    let image = hello(alloc, 0)?;
-    let mut sink = sink(alloc, 100)?;
-    assert_eq!(rt; play_image(alloc, &image, 3, &mut sink), Ok(()));
-    assert_eq!(rt; sink.bytes(), EXPECTED.as_bytes());
+// What a play of these three files answers and writes.
+fn check_play(
+    rt: &impl Abort,
+    alloc: Global,
+    files: (&str, &str, &str),
+    status: u8,
+    text: &str,
+) -> Result<(), Fail> {
+    let image = format!(in alloc; "{BARE}{}", files.0)?;
+    let mut shelf = shelf(alloc, image.as_str(), files.1, files.2, 9)?;
+    let mut sink = sink(alloc, 99)?;
+    assert_eq!(rt;
+        play_call(alloc, &mut shelf, &mut sink, "image", "script", "schedule"),
+        status,
+        "{image}"
+    );
+    assert_eq!(rt; sink.bytes(), text.as_bytes(), "{image}");
     Ok(())
 }
 
 #[test]
-fn a_put_that_fails_in_mid_stream_leaves_the_lines_before_it(rt: HostRuntime) -> Result<(), Fail> {
+fn plays_write_their_texts_and_refusals_their_lines(rt: HostRuntime) -> Result<(), Fail> {
     let alloc = rt.alloc();
-    let image = hello(alloc, 0)?;
-    let mut sink = sink(alloc, 3)?;
-    assert_eq!(rt;
-        play_image(alloc, &image, 3, &mut sink),
-        Err(NotPlayed::Sink)
-    );
-    assert_eq!(rt;
-        sink.bytes(),
-        b"0 core 0 slice 0 0 fired 0 ran 1 call out clock 2\n1 core 0 slice 0 0 fired 0 ran 1 halt clock 3\n".as_slice()
-    );
+    let table = [
+        ((HELLO, "", THREE_STEPS), 0, EXPECTED),
+        ((HELLO, "# nothing\n  \n", ""), 0, AT_START),
+        (("code = [0]", "", STEP), 0, TRAP_1),
+        (("code = \"nop\"", "", STEP), 0, TRAP_2),
+        (("code = \"delete s0\"", "", STEP), 0, TRAP_4),
+        (
+            ("code = \"li r9 1\"", "stop 0\n", ""),
+            2,
+            "image: code block.0.disp.0.code line 1: bad operand\n",
+        ),
+        (
+            ("", "stop 0\n", ""),
+            2,
+            "image: missing block.0.disp.0.code\n",
+        ),
+        (
+            ("code = \"halt\"\n[[core]]", "stop 0\n", ""),
+            2,
+            "image: not built yet\n",
+        ),
+        (
+            (HELLO, "stop 0\n", "core 0 order\n"),
+            3,
+            "script: not built yet\n",
+        ),
+        (
+            (HELLO, "", "core 0 step\ncore 0 order\n"),
+            4,
+            "schedule: not built yet\n",
+        ),
+    ];
+    for (files, status, text) in table {
+        check_play(&rt, alloc, files, status, text)?;
+    }
     Ok(())
 }
 
 #[test]
-fn an_image_with_a_line_is_not_played(rt: HostRuntime) -> Result<(), Fail> {
+fn each_put_that_fails_leaves_the_lines_before_it(rt: HostRuntime) -> Result<(), Fail> {
     let alloc = rt.alloc();
-    let image = hello(alloc, 1)?;
-    let mut sink = sink(alloc, 100)?;
-    assert_eq!(rt;
-        play_image(alloc, &image, 3, &mut sink),
-        Err(NotPlayed::NotFirst)
-    );
-    assert!(rt; sink.bytes().is_empty());
+    let image = format!(in alloc; "{BARE}{HELLO}")?;
+    let mut left = 0;
+    for failing in 1..=10 {
+        let mut shelf = shelf(alloc, image.as_str(), "", THREE_STEPS, 9)?;
+        let mut sink = sink(alloc, failing)?;
+        assert_eq!(&rt;
+            play_call(alloc, &mut shelf, &mut sink, "image", "script", "schedule"),
+            6,
+            "put {failing}"
+        );
+        assert!(&rt;
+            EXPECTED.as_bytes().starts_with(sink.bytes()),
+            "put {failing}"
+        );
+        assert!(&rt; failing == 1 || sink.bytes().len() > left, "put {failing}");
+        left = sink.bytes().len();
+    }
+    assert!(&rt; left + 4 == EXPECTED.len());
+    Ok(())
+}
+
+#[test]
+fn each_load_that_fails_is_told_by_its_file(rt: HostRuntime) -> Result<(), Fail> {
+    let alloc = rt.alloc();
+    let image = format!(in alloc; "{BARE}{HELLO}")?;
+    for (failing, text) in [
+        (1, "read fault image\n"),
+        (2, "read fault script\n"),
+        (3, "read fault schedule\n"),
+    ] {
+        let mut shelf = shelf(alloc, image.as_str(), "", "", failing)?;
+        let mut sink = sink(alloc, 99)?;
+        assert_eq!(&rt;
+            play_call(alloc, &mut shelf, &mut sink, "image", "script", "schedule"),
+            5
+        );
+        assert_eq!(&rt; sink.bytes(), text.as_bytes());
+    }
+    Ok(())
+}
+
+#[test]
+fn words_of_no_form_are_answered_by_the_usage(rt: HostRuntime) -> Result<(), Fail> {
+    let alloc = rt.alloc();
+    let image = format!(in alloc; "{BARE}{HELLO}")?;
+    for (line, status, text) in [
+        ("play image script schedule", 0, EXPECTED),
+        (
+            "play image script",
+            1,
+            "usage: dc play IMAGE SCRIPT SCHEDULE\n",
+        ),
+        (
+            "run image script schedule",
+            1,
+            "usage: dc play IMAGE SCRIPT SCHEDULE\n",
+        ),
+    ] {
+        let mut words = Vec::new(alloc);
+        for word in line.split_whitespace() {
+            words.push(String::from_str(alloc, word)?)?;
+        }
+        let mut shelf = shelf(alloc, image.as_str(), "", THREE_STEPS, 9)?;
+        let mut sink = sink(alloc, 99)?;
+        assert_eq!(&rt;
+            command(alloc, words.as_slice(), &mut shelf, &mut sink, &Open),
+            status
+        );
+        assert_eq!(&rt; sink.bytes(), text.as_bytes());
+    }
     Ok(())
 }

@@ -9,13 +9,13 @@ use Rattle.dc_top.proofs.calls.play_call.Goals as goal
 pub returns-in-Ok-clause-answers : goal.returns-in-Ok-clause-answers
 returns-in-Ok-clause-answers g c =
     let call : Call = record {
-          shelf_faults = g.H.Shelf.faults c.args.shelf.now;
-          shelf_faults_after = g.H.Shelf.faults c.load_play.new.shelf;
-          sink_faults = g.S.Sink.faults c.args.sink.now;
-          sink_faults_after = g.S.Sink.faults c.play.new.sink;
-          told = g.S.Sink.told c.args.sink.now;
-          told_after = g.S.Sink.told c.play.new.sink;
-        }
+      shelf_faults = g.H.Shelf.faults c.args.shelf.now;
+      shelf_faults_after = g.H.Shelf.faults c.load_play.new.shelf;
+      sink_faults = g.S.Sink.faults c.args.sink.now;
+      sink_faults_after = g.S.Sink.faults c.play.new.sink;
+      told = g.S.Sink.told c.args.sink.now;
+      told_after = g.S.Sink.told c.play.new.sink;
+    }
     in
     subst (λ (n : ℕ). IfSome (g.H.Shelf.told c.args.shelf.now) (λ files. PlayAnswers c.args.image.now c.args.script.now c.args.schedule.now files call n)) (sym c.status_for.ensures)
     (played_answers c.args.image.now c.args.script.now c.args.schedule.now (g.H.Shelf.told c.args.shelf.now) call (state_of c.in-Ok.machine) c.in-Ok.steps c.play.result c.in-Ok.ensures.ready c.play.ensures.writes
@@ -24,13 +24,13 @@ returns-in-Ok-clause-answers g c =
 pub returns-in-Err-clause-answers : goal.returns-in-Err-clause-answers
 returns-in-Err-clause-answers g c =
     let call : Call = record {
-          shelf_faults = g.H.Shelf.faults c.args.shelf.now;
-          shelf_faults_after = g.H.Shelf.faults c.load_play.new.shelf;
-          sink_faults = g.S.Sink.faults c.args.sink.now;
-          sink_faults_after = g.S.Sink.faults c.tell.new.sink;
-          told = g.S.Sink.told c.args.sink.now;
-          told_after = g.S.Sink.told c.tell.new.sink;
-        }
+      shelf_faults = g.H.Shelf.faults c.args.shelf.now;
+      shelf_faults_after = g.H.Shelf.faults c.load_play.new.shelf;
+      sink_faults = g.S.Sink.faults c.args.sink.now;
+      sink_faults_after = g.S.Sink.faults c.tell.new.sink;
+      told = g.S.Sink.told c.args.sink.now;
+      told_after = g.S.Sink.told c.tell.new.sink;
+    }
     in halt_answers c.args.image.now c.args.script.now c.args.schedule.now (g.H.Shelf.told c.args.shelf.now) call c.in-Err.halt c.tell.result c.in-Err.ensures.halts c.tell.ensures.told
 
 pub returns-in-Ok-clause-headline : goal.returns-in-Ok-clause-headline
