@@ -1,0 +1,10 @@
+//! What a block reaches outside itself by `csend`, `crecv` and `out`: channels between blocks, and its console.
+#![tactic(auto)]
+
+mod channel;
+mod console;
+#[cfg(test)]
+mod tests;
+
+pub use channel::{Channel, ChannelFull};
+pub use console::{Console, ConsoleFull};

@@ -1,0 +1,11 @@
+//! An interrupt line: what it is bound to, where it is routed, its raises and its offer.
+#![tactic(auto)]
+
+mod counts;
+mod line;
+#[cfg(test)]
+mod tests;
+
+pub use counts::Counts;
+pub use dc_base::interrupts::Raised;
+pub use line::Line;

@@ -1,0 +1,11 @@
+//! The ports and signals of a block.
+#![tactic(auto)]
+
+mod port;
+mod signal;
+#[cfg(test)]
+mod tests;
+
+pub use dc_base::interrupts::{Latch, Latched, Source};
+pub use port::{Port, PortFull};
+pub use signal::Signal;
