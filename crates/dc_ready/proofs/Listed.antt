@@ -47,6 +47,15 @@ below-without n (e ∷ es) r = by_test (below-without n es r.2) (e.0 == n) refl
     by_test less true q = less
     by_test less false q = let ne = eqb-false e.0 n q in let lt : e.0 < suc n = r.0 in (omega arith, lists-without e.0 n es r.1, less)
 
+-- what went is not there
+pub lists-gone : (d : ℕ) (es : List (ℕ × ℕ)) → lists (dispatchers (without_disp d es)) d ≡ false
+lists-gone d [] = refl
+lists-gone d (e ∷ es) = by_test (lists-gone d es) (e.0 == d) refl
+  where
+    by_test : lists (dispatchers (without_disp d es)) d ≡ false → (b : Bool) → (e.0 == d) ≡ b → lists (dispatchers (cond (not b) (e ∷ without_disp d es) (without_disp d es))) d ≡ false
+    by_test gone true q = gone
+    by_test gone false q = or_from (e.0 == d) (lists (dispatchers (without_disp d es)) d) q gone
+
 pub without-absent : (d : ℕ) (es : List (ℕ × ℕ)) → lists (dispatchers es) d ≡ false → without_disp d es ≡ es
 without-absent d [] h = refl
 without-absent d (e ∷ es) h =
