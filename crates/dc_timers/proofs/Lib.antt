@@ -5,3 +5,7 @@ pub mod Soonest
 pub mod Armed
 pub mod Due
 pub mod InOrder
+pub mod Places
+pub mod Shifts
+pub mod Least
+pub mod Turning

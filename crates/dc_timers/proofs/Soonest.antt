@@ -50,3 +50,8 @@ first-put t (u ∷ us) d = by_test (is_sooner t u) (is_sooner u t) (other-way t 
 pub first-sort : (next : ℕ) (ts : List Timer) → AreNumbered next ts → first (sort_by is_sooner ts) ≡ soonest ts
 first-sort next [] r = refl
 first-sort next (t ∷ ts) r = first-put t (sort_by is_sooner ts) (differ-sort is_sooner t.number ts r.1) ∙ ap (λ o. Some (sooner t o)) (first-sort next ts r.2)
+
+-- where one stands does not matter
+pub soonest-middle : (xs : List Timer) (t : Timer) (ys : List Timer) → DifferFrom t.number xs → soonest (xs ++ t ∷ ys) ≡ Some (sooner t (soonest (xs ++ ys)))
+soonest-middle [] t ys d = refl
+soonest-middle (x ∷ xs) t ys d = ap (λ o. Some (sooner x o)) (soonest-middle xs t ys d.1) ∙ ap Some (sooner-swap t x (soonest (xs ++ ys)) (λ e. d.0 (sym e)))
