@@ -1,12 +1,12 @@
 -- The leaves of a ready list as it changes.
-use Rattle.std.proofs.Common.{◌≡◌, ℕ, ◌+◌, ◌*◌, ◌<◌, ◌≤◌, Bool, true, false, cond, not, List, [], ◌∷◌, ◌++◌, length, sym, refl, ap, ◌∙◌, subst, arith}
-use Rattle.std.specs.Prelude.{◌==◌, ◌||◌, Option, Some, None, if◌then◌else◌}
+use Rattle.std.proofs.Common.{◌≡◌, ℕ, ◌+◌, ◌*◌, ◌<◌, Bool, true, false, cond, not, List, [], ◌∷◌, ◌++◌, length, sym, refl, ap, ◌∙◌, subst, arith}
+use Rattle.std.specs.Prelude.{◌==◌, Option, Some, None, if◌then◌else◌}
 use Rattle.std.proofs.Math.ListN.{replicate}
 use Rattle.std.proofs.lemmas.List.{get_or-replicate}
 use Rattle.std.proofs.lemmas.Bool.{eqb-true, eqb-false, eq-eqb, ne_eqb, or_parts}
 use Rattle.dc_base.specs.Words.{lists}
 use Rattle.dc_ready.specs.Entries.{dispatchers, without_disp, IsReadyList}
-use Rattle.dc_ready.specs.Heaps.{winner, node, leaf, IsHeap, IsWon, IsHeapOf}
+use Rattle.dc_ready.specs.Heaps.{winner, node, leaf, IsHeap, IsHeapOf}
 use Rattle.dc_ready.specs.declared.heaps.Candidate.{Candidate}
 use Rattle.dc_ready.proofs.Listed.{once-push, once-without, without-absent}
 

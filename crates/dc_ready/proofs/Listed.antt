@@ -1,8 +1,8 @@
 -- Ready lists that grow, shrink and have no room.
-use Rattle.std.proofs.Common.{◌≡◌, ℕ, zero, suc, ◌+◌, ◌<◌, ◌≤◌, Bool, true, false, cond, not, List, [], ◌∷◌, ◌++◌, length, take, get_or, sym, refl, ap, ◌∙◌, subst, ⊎_elim, arith, eqb, ltb, length-append}
+use Rattle.std.proofs.Common.{◌≡◌, ℕ, zero, suc, ◌<◌, ◌≤◌, Bool, true, false, cond, not, List, [], ◌∷◌, ◌++◌, length, take, get_or, sym, refl, ap, ◌∙◌, subst, ⊎_elim, arith, length-append}
 use Rattle.std.proofs.lemmas.List.{length-map}
 use Rattle.std.specs.Prelude.{◌==◌, ◌||◌, Some, slice_get, nat_lt, filter}
-use Rattle.std.proofs.lemmas.Bool.{eqb-true, eqb-false, ne_eqb, eq-eqb, or_parts, or_from, or_left, or_right, cases_Bool, lt-ltb, le-ltb}
+use Rattle.std.proofs.lemmas.Bool.{eqb-true, eqb-false, ne_eqb, or_parts, or_from, cases_Bool, lt-ltb, le-ltb}
 use Rattle.std.proofs.lemmas.Option.{none-some, same_Some, slice_get-get_or}
 use Rattle.dc_base.specs.declared.numbers.DispNo.{DispNo}
 use Rattle.dc_base.specs.Words.{lists}
@@ -48,9 +48,9 @@ below-without n (e ∷ es) r = by_test (below-without n es r.2) (e.0 == n) refl
     by_test less false q = let ne = eqb-false e.0 n q in let lt : e.0 < suc n = r.0 in (omega arith, lists-without e.0 n es r.1, less)
 
 -- what went is not there
-pub lists-gone : (d : ℕ) (es : List (ℕ × ℕ)) → lists (dispatchers (without_disp d es)) d ≡ false
-lists-gone d [] = refl
-lists-gone d (e ∷ es) = by_test (lists-gone d es) (e.0 == d) refl
+pub lists_gone : (d : ℕ) (es : List (ℕ × ℕ)) → lists (dispatchers (without_disp d es)) d ≡ false
+lists_gone d [] = refl
+lists_gone d (e ∷ es) = by_test (lists_gone d es) (e.0 == d) refl
   where
     by_test : lists (dispatchers (without_disp d es)) d ≡ false → (b : Bool) → (e.0 == d) ≡ b → lists (dispatchers (cond (not b) (e ∷ without_disp d es) (without_disp d es))) d ≡ false
     by_test gone true q = gone

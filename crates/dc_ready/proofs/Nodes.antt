@@ -1,6 +1,6 @@
 -- Heaps that change, and their top.
-use Rattle.std.proofs.Common.{◌≡◌, ◌≢◌, ℕ, ◌+◌, ◌-◌, ◌*◌, ◌/◌, ◌%◌, ◌<◌, ◌≤◌, List, length, set, get_or, get_or-set_other, get_or-set_same, sym, refl, ap, ◌∙◌, subst, ⊎_elim, arith}
-use Rattle.std.specs.Prelude.{Option, Some, None}
+use Rattle.std.proofs.Common.{◌≡◌, ◌≢◌, ℕ, ◌+◌, ◌*◌, ◌/◌, ◌<◌, ◌≤◌, List, length, set, get_or-set_other, get_or-set_same, sym, refl, ◌∙◌, subst, ⊎_elim, arith}
+use Rattle.std.specs.Prelude.{Option}
 use Rattle.std.proofs.lemmas.Bool.{cases_eq}
 use Rattle.dc_ready.specs.Heaps.{winner, node, IsWon, IsHeap}
 use Rattle.dc_ready.specs.declared.heaps.Candidate.{Candidate}

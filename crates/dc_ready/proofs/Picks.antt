@@ -6,8 +6,7 @@ use Rattle.std.proofs.lemmas.Option.{none-some, same_Some, get_or_from_slice_get
 use Rattle.dc_base.specs.declared.kernels.Version.TheVariants.{Edf}
 use Rattle.dc_base.specs.Words.{lists}
 use Rattle.dc_base.specs.Policies.{is_earlier, earlier, earliest, pick}
-use Rattle.dc_base.proofs.EachLaws.{each_first, each_rest}
-use Rattle.dc_ready.specs.Entries.{dispatchers, AreDues, AreOnceBelow}
+use Rattle.dc_ready.specs.Entries.{dispatchers, AreDues}
 use Rattle.dc_ready.specs.Heaps.{is_before, leaf, node, IsHeapOf}
 use Rattle.dc_ready.specs.declared.heaps.Candidate.{Candidate}
 use Rattle.dc_ready.proofs.Listed.{below-listed}

@@ -1,8 +1,8 @@
 -- Which of two candidates is picked first.
-use Rattle.std.proofs.Common.{◌≡◌, ℕ, ◌<◌, Bool, true, false, cond, sym, refl, ap, subst, inl, inr, arith}
+use Rattle.std.proofs.Common.{◌≡◌, ℕ, Bool, true, false, cond, refl, inl, inr, arith}
 use Rattle.std.specs.Prelude.{◌==◌, ◌||◌, ◌&&◌, nat_lt, Option, Some, None, ◌⊎◌}
 use Rattle.std.proofs.lemmas.Bool.Decides.{nat_tests}
-use Rattle.dc_ready.specs.Heaps.{is_before, before, winner}
+use Rattle.dc_ready.specs.Heaps.{is_before, winner}
 use Rattle.dc_ready.specs.declared.heaps.Candidate.{Candidate}
 
 never-itself : (a m : ℕ) → (nat_lt a a || (a == a && nat_lt m m)) ≡ false

@@ -19,6 +19,7 @@ fn picked_of(version: Version, list: &[(DispNo, u64)]) -> Option<DispNo> {
     }
 }
 
+#[tactic(auto, using(crate::proofs::Listed::lists_gone))]
 fn check_random_calls<R: ReadyList>(rt: &impl Abort, alloc: Global) -> Result<(), Fail> {
     let mut ready = R::empty();
     let mut list: Vec<(DispNo, u64)> = Vec::new(alloc);

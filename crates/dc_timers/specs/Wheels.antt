@@ -1,5 +1,5 @@
 -- Wheels: 64 buckets side by side, by deadline modulo 64.
-use Rattle.std.specs.Prelude.{◌≡◌, ℕ, ◌+◌, ◌%◌, ◌<◌, ◌≤◌, List, Option, Some, length, slice_get, slice_index}
+use Rattle.std.specs.Prelude.{◌≡◌, ℕ, ◌+◌, ◌%◌, ◌<◌, ◌≤◌, List, Option, length, slice_index}
 use Rattle.std.specs.Option.{option_map}
 use Rattle.dc_base.specs.declared.interrupts.Timer.{Timer}
 use Rattle.dc_base.specs.Words.{Each}

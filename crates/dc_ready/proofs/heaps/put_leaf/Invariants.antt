@@ -1,6 +1,3 @@
-use Rattle.std.proofs.Common.{◌≡◌, ◌≢◌, ◌+◌, ◌/◌, ◌<◌, ℕ}
-use Rattle.std.specs.Prelude.{◌==◌, if◌then◌else◌}
-use Rattle.dc_ready.specs.Heaps.{node}
 use Rattle.dc_ready.proofs.Mending.{IsMending}
 use Rattle.dc_ready.proofs.heaps.put_leaf.Given as goal
 

@@ -1,4 +1,4 @@
-use Rattle.std.proofs.Common.{◌≡◌, false, rules, sym, subst}
+use Rattle.std.proofs.Common.{◌≡◌, false, sym, subst}
 use Rattle.dc_base.specs.Words.{lists}
 use Rattle.dc_ready.specs.Entries.{dispatchers}
 use Rattle.dc_ready.proofs.Leaves.{heap-push}

@@ -1,4 +1,4 @@
-use Rattle.std.proofs.Common.{◌≡◌, rules, sym, ◌∙◌}
+use Rattle.std.proofs.Common.{sym, ◌∙◌}
 use Rattle.dc_ready.proofs.Listed.{below-listed}
 use Rattle.dc_ready.proofs.Leaves.{heap-without, heap-same}
 use Rattle.dc_ready.proofs.due_heaps.DueHeapReadyList.remove.Goals as goal

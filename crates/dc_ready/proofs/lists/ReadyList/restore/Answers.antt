@@ -1,4 +1,4 @@
-use Rattle.std.proofs.Common.{◌≡◌, get_or, ap, sym, ◌∙◌, subst, false, arith}
+use Rattle.std.proofs.Common.{◌≡◌, get_or, sym, subst, false, arith}
 use Rattle.dc_base.specs.Words.{lists}
 use Rattle.dc_ready.specs.Entries.{dispatchers}
 use Rattle.dc_ready.proofs.Listed.{taken-once}

@@ -1,6 +1,5 @@
-use Rattle.std.proofs.Common.{◌≡◌, ◌+◌, ◌++◌, [], ◌∷◌, ap, sym, refl, ◌∙◌, subst, arith, length}
+use Rattle.std.proofs.Common.{◌+◌, ◌++◌, [], ◌∷◌, ap, sym, refl, ◌∙◌, subst, arith, length}
 use Rattle.std.proofs.lemmas.Bool.{eqb-true, eqb-false}
-use Rattle.dc_base.specs.declared.interrupts.Timer.{Timer}
 use Rattle.dc_timers.specs.Numbers.{Queue, by_number}
 use Rattle.dc_timers.specs.Orders.{AreInOrder}
 use Rattle.dc_timers.proofs.Armed.{length-armed, ordered-put, by_number-put}

@@ -1,5 +1,4 @@
-use Rattle.std.proofs.Common.{◌≡◌, ◌<◌, length, ap, sym, ◌∙◌, subst, arith}
-use Rattle.std.specs.Prelude.{remove}
+use Rattle.std.proofs.Common.{◌<◌, length, ap, sym, ◌∙◌, subst, arith}
 use Rattle.dc_timers.specs.Numbers.{Queue, by_number}
 use Rattle.dc_timers.specs.Orders.{AreInOrder}
 use Rattle.dc_timers.proofs.Armed.{front-there, front-soonest, front-rest, front-gone}

@@ -1,5 +1,4 @@
-use Rattle.std.proofs.Common.{◌≡◌, ap, sym, ◌∙◌, arith}
-use Rattle.dc_base.specs.Timers.{soonest}
+use Rattle.std.proofs.Common.{ap}
 use Rattle.dc_timers.specs.Numbers.{Queue}
 use Rattle.dc_timers.proofs.Armed.{first-none, first-some}
 use Rattle.dc_timers.proofs.timer_lists.TimerListTimerQueue.earliest.Goals as goal

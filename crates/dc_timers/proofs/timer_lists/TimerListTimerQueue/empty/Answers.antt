@@ -1,4 +1,4 @@
-use Rattle.std.proofs.Common.{◌≡◌, [], ap, sym, refl, subst}
+use Rattle.std.proofs.Common.{◌≡◌, [], sym, subst}
 use Rattle.dc_timers.specs.Numbers.{by_number}
 use Rattle.dc_timers.specs.Orders.{AreInOrder}
 use Rattle.dc_timers.proofs.Armed.{ordered-none, by_number-none}

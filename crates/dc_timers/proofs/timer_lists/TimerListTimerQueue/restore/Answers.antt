@@ -1,6 +1,6 @@
-use Rattle.std.proofs.Common.{◌≡◌, ap, sym, ◌∙◌, subst}
+use Rattle.std.proofs.Common.{ap, sym, ◌∙◌, subst}
 use Rattle.dc_base.specs.Timers.{in_order}
-use Rattle.dc_timers.specs.Numbers.{by_number, AreNumbered}
+use Rattle.dc_timers.specs.Numbers.{by_number}
 use Rattle.dc_timers.specs.Orders.{AreInOrder}
 use Rattle.dc_timers.proofs.Armed.{ordered-in_order, by_number-in_order}
 use Rattle.dc_timers.proofs.timer_lists.TimerListTimerQueue.restore.Goals as goal

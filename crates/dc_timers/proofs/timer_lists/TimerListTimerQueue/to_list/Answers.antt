@@ -1,4 +1,4 @@
-use Rattle.std.proofs.Common.{◌≡◌, ap, sym, ◌∙◌}
+use Rattle.std.proofs.Common.{ap, sym, ◌∙◌}
 use Rattle.dc_base.specs.Timers.{in_order}
 use Rattle.dc_timers.specs.Numbers.{Queue}
 use Rattle.dc_timers.proofs.Armed.{in_order-by_number}

@@ -1,7 +1,7 @@
-use Rattle.std.proofs.Common.{◌≡◌, ◌+◌, ◌++◌, [], ◌∷◌, ap, sym, refl, ◌∙◌, subst, arith, length}
+use Rattle.std.proofs.Common.{◌+◌, ◌++◌, [], ◌∷◌, ap, sym, refl, ◌∙◌, subst, arith, length}
 use Rattle.std.specs.Prelude.{Some}
 use Rattle.std.proofs.lemmas.Bool.{eqb-true, eqb-false}
-use Rattle.dc_timers.specs.Numbers.{Queue, by_number}
+use Rattle.dc_timers.specs.Numbers.{Queue}
 use Rattle.dc_timers.specs.Wheels.{IsWheel}
 use Rattle.dc_timers.proofs.Armed.{length-armed}
 use Rattle.dc_timers.proofs.Turning.{armed-put, wheel-put}

@@ -1,7 +1,6 @@
-use Rattle.std.proofs.Common.{◌≡◌, ap, sym, ◌∙◌, subst}
+use Rattle.std.proofs.Common.{ap, sym, ◌∙◌, subst}
 use Rattle.dc_base.specs.Timers.{soonest, without_timer}
-use Rattle.dc_timers.specs.Numbers.{Queue, by_number, AreNumbered}
-use Rattle.dc_timers.proofs.Armed.{soonest-by_number}
+use Rattle.dc_timers.specs.Numbers.{Queue, AreNumbered}
 use Rattle.dc_timers.proofs.Due.{due-none, due-later, due-now}
 use Rattle.dc_timers.proofs.Turning.{deadline_of, soonest-place, taken-soonest, numbered-take, armed-take, wheel-soonest}
 use Rattle.dc_timers.proofs.timer_wheels.TimerWheelTimerQueue.due.Goals as goal

@@ -1,6 +1,6 @@
-use Rattle.std.proofs.Common.{◌≡◌, ap, sym, ◌∙◌, subst}
+use Rattle.std.proofs.Common.{ap, sym, ◌∙◌, subst}
 use Rattle.dc_base.specs.Timers.{soonest}
-use Rattle.dc_timers.specs.Numbers.{by_number, AreNumbered}
+use Rattle.dc_timers.specs.Numbers.{AreNumbered}
 use Rattle.dc_timers.proofs.Turning.{deadline_of}
 use Rattle.dc_timers.proofs.timer_wheels.TimerWheelTimerQueue.restore.Goals as goal
 

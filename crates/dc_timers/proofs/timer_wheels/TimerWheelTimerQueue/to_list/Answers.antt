@@ -1,4 +1,4 @@
-use Rattle.std.proofs.Common.{◌≡◌, ap, sym, ◌∙◌, subst}
+use Rattle.std.proofs.Common.{ap, sym, ◌∙◌, subst}
 use Rattle.dc_base.specs.Timers.{in_order}
 use Rattle.dc_timers.specs.Numbers.{Queue, by_number, AreNumbered}
 use Rattle.dc_timers.proofs.Armed.{in_order-by_number, by_number-in_order, numbered-in_order}
