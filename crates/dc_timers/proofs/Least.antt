@@ -43,9 +43,6 @@ pub soonest-least : (ts : List Timer) (s : Timer) → soonest ts ≡ Some s → 
 soonest-least [] s e = absurd (none-some s e)
 soonest-least (t ∷ ts) s e = by_rest (soonest-least ts) ts refl
   where
-    none-sooner : NoSooner [] s
-    none-sooner j u g = absurd (none-some u g)
-
     by_test : (m : Timer) → NoSooner ts m → (b : Bool) → is_sooner m t ≡ b → cond b m t ≡ s → NoSooner (t ∷ ts) s
     by_test m more true h q = subst (NoSooner (t ∷ ts)) q (of_first t ts m (not-both m t h) more)
     by_test m more false h q = subst (NoSooner (t ∷ ts)) q (of_first t ts t (not-itself t) (λ j u g. not-sooner u m t (more j u g) h))
