@@ -1,0 +1,11 @@
+pub mod TimerOrders
+pub mod Sorting
+pub mod Apart
+pub mod Soonest
+pub mod Armed
+pub mod Due
+pub mod InOrder
+pub mod Places
+pub mod Shifts
+pub mod Least
+pub mod Turning

@@ -1,0 +1,16 @@
+//! The time of a block, and its armed timers.
+#![tactic(auto)]
+
+mod buckets;
+mod clocks;
+mod orders;
+mod queues;
+#[cfg(test)]
+mod tests;
+mod timer_lists;
+mod timer_wheels;
+
+pub use clocks::Clock;
+pub use queues::{TimerQueue, TimersFull};
+pub use timer_lists::TimerList;
+pub use timer_wheels::TimerWheel;
