@@ -1,0 +1,11 @@
+mod Ascending
+mod Nodes
+mod Rooted
+mod Ranks
+mod Reaching
+mod Leaving
+mod Steps
+mod Linked
+mod Descending
+mod Clearing
+mod Forested

@@ -1,0 +1,20 @@
+use Rattle.std.proofs.Common.{◌≡◌, refl, sym, ap, ◌∙◌, ◌<◌, ◌≤◌, true, false, length, arith, Some, None, [], length-set}
+use Rattle.std.specs.Prelude.{slice_index_or, slice_set}
+use Rattle.dc_mdb.specs.Forests.{has_slot, with_node, without_slot, without_descendants, descendants}
+use Rattle.std.proofs.lemmas.List.{length-map}
+use Rattle.dc_mdb.specs.declared.links.Link.TheVariants.{Absent}
+use Rattle.dc_mdb.specs.Links.{nodes_of}
+use Rattle.dc_mdb.proofs.Forested.{empty_forest, root_is_put, root_forest, child_is_put, child_forest, slot_is_out, left_forest, below_is_out, pruned_forest}
+use Rattle.dc_mdb.proofs.forests.Forest.remove.Goals as goal
+
+pub invariant_of-self : goal.invariant_of-self
+invariant_of-self c =
+    let links = c.self.inside.links in let s = c.args.s in let up = slice_index_or links s Absent in
+    let used : has_slot (nodes_of links) s ≡ true = ap (λ ns. has_slot ns s) c.self.view_is ∙ sym c.contains.ensures.value ∙ c.if-not-contains.false in
+    rw c.hang.ensures (left_forest links c.self.invariant s up refl used (simp (length-set, length-map) (omega arith)))
+
+pub returns-clause-ok : goal.returns-clause-ok
+returns-clause-ok c =
+    let links = c.self.inside.links in let s = c.args.s in let up = slice_index_or links s Absent in
+    let used : has_slot (nodes_of links) s ≡ true = ap (λ ns. has_slot ns s) c.self.view_is ∙ sym c.contains.ensures.value ∙ c.if-not-contains.false in
+    ap (λ ls. nodes_of (slice_set ls s Absent)) c.hang.ensures ∙ slot_is_out links c.self.invariant s up refl used ∙ ap (without_slot s) c.self.view_is
