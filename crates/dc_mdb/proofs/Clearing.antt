@@ -1,14 +1,12 @@
 -- Slots that are taken out one after another.
-use Rattle.std.proofs.Common.{◌≡◌, ℕ, zero, suc, ◌+◌, ◌<◌, ◌≤◌, List, [], ◌∷◌, ◌++◌, Bool, true, false, Option, Some, None, refl, sym, ap, ◌∙◌, subst, arith, length, map}
-use Rattle.std.specs.Prelude.{◌==◌, ◌||◌, not, if◌then◌else◌, filter, slice_get}
+use Rattle.std.proofs.Common.{◌≡◌, ℕ, ◌<◌, List, [], ◌∷◌, ◌++◌, Bool, true, false, refl, sym, ap, ◌∙◌, arith, map}
+use Rattle.std.specs.Prelude.{◌==◌, ◌||◌, not, if◌then◌else◌, filter}
 use Rattle.std.proofs.lemmas.List.Folds.{list_any-append}
 use Rattle.std.proofs.lemmas.Bool.Decides.{nat_tests}
 use Rattle.dc_base.specs.Words.{Each, lists}
 use Rattle.dc_base.proofs.EachLaws.{each_first, each_rest}
-use Rattle.dc_mdb.specs.declared.links.Link.{Link}
 use Rattle.dc_mdb.specs.Forests.{Node, reaches, descendants, without_descendants, IsForest}
-use Rattle.dc_mdb.specs.Links.{nodes_of}
-use Rattle.dc_mdb.proofs.Ascending.{same_is, other_is, not_same, Ascends, ascends_first, ascends_rest, each_filter, map_there}
+use Rattle.dc_mdb.proofs.Ascending.{same_is, other_is, Ascends, ascends_first, ascends_rest, each_filter, map_there}
 use Rattle.dc_mdb.proofs.Linked.{is_not, slot_of}
 
 abbrev pub is_none_of : List ℕ → Node → Bool

@@ -1,17 +1,17 @@
 -- The slots below one, as they are found in order.
-use Rattle.std.proofs.Common.{◌≡◌, ℕ, zero, suc, ◌+◌, ◌<◌, ◌≤◌, List, [], ◌∷◌, ◌++◌, Bool, true, false, Option, Some, None, refl, sym, ap, ◌∙◌, subst, arith, length, map, take, append_assoc, add-one}
+use Rattle.std.proofs.Common.{◌≡◌, ℕ, zero, suc, ◌+◌, ◌<◌, ◌≤◌, List, [], ◌∷◌, ◌++◌, Bool, true, false, Option, Some, None, refl, sym, ap, ◌∙◌, arith, length, map, take, append_assoc}
 use Rattle.std.specs.Prelude.{slice_index_or, if◌then◌else◌, filter, IfSome}
 use Rattle.std.proofs.lemmas.List.{map-append, append-nil}
 use Rattle.std.proofs.lemmas.List.Elements.{filter-append}
 use Rattle.dc_base.specs.Words.{numbered}
 use Rattle.dc_mdb.specs.declared.links.Link.{Link}
 use Rattle.dc_mdb.specs.declared.links.Link.TheVariants.{Absent, Root, Child}
-use Rattle.dc_mdb.specs.Forests.{Node, node_at, has_slot, parent_in, parent_at, reaches_in, reaches, descendants, IsForest}
+use Rattle.dc_mdb.specs.Forests.{Node, node_at, has_slot, parent_in, parent_at, reaches_in, reaches, IsForest}
 use Rattle.dc_mdb.specs.Links.{node_of, nodes_of, link_parent}
 use Rattle.dc_mdb.proofs.Linked.{parent_at_links}
 use Rattle.dc_mdb.proofs.Nodes.{node_found}
 use Rattle.dc_mdb.proofs.Reaching.{reaches_same}
-use Rattle.dc_mdb.proofs.Rooted.{IsRooted, rooted_of}
+use Rattle.dc_mdb.proofs.Rooted.{rooted_of}
 use Rattle.dc_mdb.proofs.Steps.{reaches_none}
 
 -- one link more

@@ -1,13 +1,13 @@
 -- The links stand for a forest, as they change.
-use Rattle.std.proofs.Common.{◌≡◌, ℕ, ◌<◌, ◌≤◌, List, [], ◌∷◌, Bool, true, false, Option, Some, None, refl, sym, ap, ◌∙◌, subst, arith, length, map}
-use Rattle.std.specs.Prelude.{slice_index_or, slice_set, not, filter, IfSome, ◌==◌, if◌then◌else◌}
-use Rattle.dc_base.specs.Words.{Each, lists, is_number}
+use Rattle.std.proofs.Common.{◌≡◌, ℕ, ◌<◌, List, [], ◌∷◌, Bool, true, false, Option, Some, None, refl, sym, ap, ◌∙◌, subst, arith, length, map}
+use Rattle.std.specs.Prelude.{slice_index_or, slice_set, filter, IfSome, if◌then◌else◌}
+use Rattle.dc_base.specs.Words.{is_number}
 use Rattle.dc_base.proofs.EachLaws.{each_nil}
 use Rattle.dc_mdb.specs.declared.links.Link.{Link}
 use Rattle.dc_mdb.specs.declared.links.Link.TheVariants.{Absent, Root, Child}
 use Rattle.dc_mdb.specs.Forests.{Node, has_slot, parent_at, with_node, with_parent, without_slot, without_descendants, descendants, IsForest}
 use Rattle.dc_mdb.specs.Links.{nodes_of, link_to, link_parent, is_there, with_link}
-use Rattle.dc_mdb.proofs.Ascending.{Ascends, ascends_nil}
+use Rattle.dc_mdb.proofs.Ascending.{ascends_nil}
 use Rattle.dc_mdb.proofs.Clearing.{out_below, is_none_of}
 use Rattle.dc_mdb.proofs.Leaving.{removed_rooted}
 use Rattle.dc_mdb.proofs.Linked.{slot_of, is_not, has_slot_links, parent_at_links, links_with_root, links_with_child, links_without, links_hung, links_ascend, links_below}

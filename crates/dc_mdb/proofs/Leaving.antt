@@ -1,9 +1,8 @@
 -- What is left after a slot goes.
-use Rattle.std.proofs.Common.{◌≡◌, ℕ, zero, suc, ◌+◌, ◌<◌, ◌≤◌, List, [], ◌∷◌, Bool, true, false, Option, Some, None, refl, sym, ap, ◌∙◌, subst, arith, length, map}
-use Rattle.std.specs.Prelude.{slice_get, nat_lt, ◌==◌, ◌||◌, not, if◌then◌else◌, filter, IfSome, is_some}
-use Rattle.std.proofs.lemmas.Bool.Decides.{nat_tests}
-use Rattle.dc_base.specs.Words.{Each, is_number, count_of}
-use Rattle.dc_mdb.specs.Forests.{Node, node_at, has_slot, parent_in, parent_at, with_node, reaches_in, reaches, without_descendants, with_parent, without_slot, Falls, IsForest}
+use Rattle.std.proofs.Common.{◌≡◌, ℕ, ◌<◌, List, Bool, true, false, Option, Some, None, refl, sym, ap, ◌∙◌, subst, arith, map}
+use Rattle.std.specs.Prelude.{slice_get, ◌==◌, not, if◌then◌else◌, filter, IfSome}
+use Rattle.dc_base.specs.Words.{is_number}
+use Rattle.dc_mdb.specs.Forests.{Node, node_at, has_slot, parent_in, parent_at, with_parent, without_slot}
 use Rattle.dc_mdb.proofs.Ascending.{other_is, is_same, not_same, was_there, in_filter, in_map, map_there}
 use Rattle.dc_mdb.proofs.Nodes.{used_node, there_used, node_found}
 use Rattle.dc_mdb.proofs.Rooted.{IsRooted}

@@ -2,7 +2,7 @@
 use Rattle.std.proofs.Common.{◌≡◌, ℕ, zero, suc, ◌+◌, ◌<◌, ◌≤◌, List, [], ◌∷◌, ◌++◌, Bool, true, false, Option, Some, None, refl, sym, ap, ◌∙◌, subst, arith, length, map}
 use Rattle.std.specs.Prelude.{slice_index_or, slice_set, nat_lt, ◌==◌, not, if◌then◌else◌, filter, is_some}
 use Rattle.std.proofs.lemmas.Bool.Decides.{nat_tests}
-use Rattle.dc_base.specs.Words.{Each, is_number, numbered}
+use Rattle.dc_base.specs.Words.{Each, numbered}
 use Rattle.dc_base.proofs.EachLaws.{each_nil, each_cons}
 use Rattle.dc_mdb.specs.declared.links.Link.{Link}
 use Rattle.dc_mdb.specs.declared.links.Link.TheVariants.{Absent, Root, Child}

@@ -1,9 +1,8 @@
 -- The slots of a forest: what stays as one is added.
-use Rattle.std.proofs.Common.{◌≡◌, ℕ, zero, suc, ◌<◌, ◌≤◌, List, [], ◌∷◌, Bool, true, false, Option, Some, None, refl, sym, ap, ◌∙◌, subst, arith}
+use Rattle.std.proofs.Common.{◌≡◌, ℕ, zero, suc, List, [], ◌∷◌, Bool, true, false, Option, Some, None, refl, ap, ◌∙◌, subst}
 use Rattle.std.specs.Prelude.{slice_get, nat_lt, ◌==◌, if◌then◌else◌, is_some}
-use Rattle.std.proofs.lemmas.Bool.Decides.{nat_tests}
 use Rattle.dc_base.specs.Words.{Each}
-use Rattle.dc_base.proofs.EachLaws.{each_nil, each_cons}
+use Rattle.dc_base.proofs.EachLaws.{each_cons}
 use Rattle.dc_mdb.specs.Forests.{Node, node_at, has_slot, with_node}
 use Rattle.dc_mdb.proofs.Ascending.{same_is, is_same, In, in_later}
 

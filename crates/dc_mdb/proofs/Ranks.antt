@@ -1,9 +1,9 @@
 -- How many slots have a rank below another.
-use Rattle.std.proofs.Common.{◌≡◌, ℕ, zero, suc, ◌+◌, ◌<◌, ◌≤◌, List, [], ◌∷◌, Bool, true, false, Option, Some, None, refl, sym, ap, ◌∙◌, subst, arith, length, map}
-use Rattle.std.specs.Prelude.{slice_get, nat_lt, ◌==◌, ◌||◌, not, if◌then◌else◌, filter, IfSome, is_some}
+use Rattle.std.proofs.Common.{◌≡◌, ℕ, zero, suc, ◌+◌, ◌<◌, ◌≤◌, List, [], ◌∷◌, Bool, true, false, Some, refl, sym, ap, subst, arith, length}
+use Rattle.std.specs.Prelude.{slice_get, nat_lt}
 use Rattle.std.proofs.lemmas.Bool.Decides.{nat_tests}
-use Rattle.dc_base.specs.Words.{Each, is_number, count_of}
-use Rattle.dc_mdb.specs.Forests.{Node, node_at, has_slot, parent_in, parent_at, with_node, reaches_in, reaches, without_descendants, with_parent, without_slot, Falls, IsForest}
+use Rattle.dc_base.specs.Words.{count_of}
+use Rattle.dc_mdb.specs.Forests.{Node}
 
 -- how many slots have a rank below r
 

@@ -1,9 +1,7 @@
 -- More steps reach no more than there are slots, and what is left after all that reach a slot go.
-use Rattle.std.proofs.Common.{◌≡◌, ℕ, zero, suc, ◌+◌, ◌-◌, ◌<◌, ◌≤◌, List, [], ◌∷◌, Bool, true, false, Option, Some, None, refl, sym, ap, ◌∙◌, subst, arith, length, map}
-use Rattle.std.specs.Prelude.{slice_get, nat_lt, ◌==◌, ◌||◌, not, if◌then◌else◌, filter, IfSome, is_some}
-use Rattle.std.proofs.lemmas.Bool.Decides.{nat_tests}
-use Rattle.dc_base.specs.Words.{Each, is_number, count_of}
-use Rattle.dc_mdb.specs.Forests.{Node, node_at, has_slot, parent_in, parent_at, with_node, reaches_in, reaches, without_descendants, with_parent, without_slot, Falls, IsForest}
+use Rattle.std.proofs.Common.{◌≡◌, ℕ, zero, suc, ◌+◌, ◌-◌, ◌<◌, ◌≤◌, List, [], ◌∷◌, Bool, true, false, Option, Some, None, refl, sym, ap, ◌∙◌, subst, arith, length}
+use Rattle.std.specs.Prelude.{◌==◌, ◌||◌, not, if◌then◌else◌, filter, IfSome, is_some}
+use Rattle.dc_mdb.specs.Forests.{Node, node_at, has_slot, parent_in, parent_at, reaches_in, reaches, without_descendants}
 use Rattle.dc_mdb.proofs.Ascending.{was_there, each_filter}
 use Rattle.dc_mdb.proofs.Nodes.{IsNode, used_node}
 use Rattle.dc_mdb.proofs.Ranks.{below, below_less, below_some}

@@ -1,9 +1,8 @@
 -- Each parent is there, and going from parent to parent ends at a root: this stays as a slot is added.
-use Rattle.std.proofs.Common.{◌≡◌, ℕ, zero, suc, ◌+◌, ◌<◌, ◌≤◌, List, [], ◌∷◌, Bool, true, false, Option, Some, None, refl, sym, ap, ◌∙◌, subst, arith, length, map}
-use Rattle.std.specs.Prelude.{slice_get, nat_lt, ◌==◌, ◌||◌, not, if◌then◌else◌, filter, IfSome, is_some}
-use Rattle.std.proofs.lemmas.Bool.Decides.{nat_tests}
-use Rattle.dc_base.specs.Words.{Each, is_number, count_of}
-use Rattle.dc_mdb.specs.Forests.{Node, node_at, has_slot, parent_in, parent_at, with_node, reaches_in, reaches, without_descendants, with_parent, without_slot, Falls, IsForest}
+use Rattle.std.proofs.Common.{◌≡◌, ℕ, ◌+◌, ◌<◌, List, true, false, Option, Some, None, sym, ap, ◌∙◌, subst, arith}
+use Rattle.std.specs.Prelude.{slice_get, ◌==◌, if◌then◌else◌, IfSome}
+use Rattle.dc_base.specs.Words.{Each}
+use Rattle.dc_mdb.specs.Forests.{Node, has_slot, with_node, Falls, IsForest}
 use Rattle.dc_mdb.proofs.Ascending.{same_is, other_is}
 use Rattle.dc_mdb.proofs.Nodes.{there_used, each_put, still_used}
 

@@ -1,4 +1,4 @@
-use Rattle.std.proofs.Common.{◌≡◌, ◌≤◌, ◌<◌, ◌++◌, [], ◌∷◌, sym, ◌∙◌, ap, length, true, false, Bool, arith, length-append, ℕ}
+use Rattle.std.proofs.Common.{◌≡◌, ◌<◌, ◌++◌, [], ◌∷◌, sym, ◌∙◌, ap, length, arith}
 use Rattle.dc_mdb.specs.Links.{nodes_of}
 use Rattle.dc_mdb.specs.Forests.{parent_at, reaches_in}
 use Rattle.dc_mdb.proofs.Descending.{found_next, found_none}

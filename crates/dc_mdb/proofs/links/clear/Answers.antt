@@ -1,4 +1,4 @@
-use Rattle.std.proofs.Common.{◌≡◌, sym, ap, ◌∙◌, ◌<◌, ◌≤◌, ◌++◌, [], ◌∷◌, take, arith}
+use Rattle.std.proofs.Common.{sym, ap, ◌∙◌, take, arith}
 use Rattle.std.specs.Prelude.{slice_index, filter}
 use Rattle.std.proofs.lemmas.List.{take_more}
 use Rattle.std.proofs.lemmas.Option.{slice_get-get_or}

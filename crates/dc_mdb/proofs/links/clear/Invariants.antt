@@ -1,4 +1,4 @@
-use Rattle.std.proofs.Common.{◌≡◌, ◌<◌, length, take}
+use Rattle.std.proofs.Common.{◌≡◌, take}
 use Rattle.std.specs.Prelude.{not, filter}
 use Rattle.dc_base.specs.Words.{lists}
 use Rattle.dc_mdb.specs.Forests.{Node}

@@ -1,9 +1,9 @@
-use Rattle.std.proofs.Common.{◌≡◌, sym, ap, ◌∙◌, ◌<◌, ◌≤◌, true, false, length, arith, Some, None, [], length-set}
+use Rattle.std.proofs.Common.{◌≡◌, sym, ap, ◌∙◌, arith, Some}
 use Rattle.std.specs.Prelude.{slice_get, filter}
-use Rattle.dc_mdb.specs.Forests.{has_slot, with_node, without_slot, without_descendants, descendants}
+use Rattle.dc_mdb.specs.Forests.{without_descendants, descendants}
 use Rattle.dc_mdb.specs.Links.{nodes_of}
 use Rattle.dc_mdb.proofs.Clearing.{is_none_of, descendants_below}
-use Rattle.dc_mdb.proofs.Forested.{empty_forest, root_is_put, root_forest, child_is_put, child_forest, slot_is_out, left_forest, below_is_out, pruned_forest}
+use Rattle.dc_mdb.proofs.Forested.{below_is_out, pruned_forest}
 use Rattle.dc_mdb.proofs.forests.Forest.prune.Goals.{After-clear}
 use Rattle.dc_mdb.proofs.forests.Forest.prune.Goals as goal
 

@@ -1,0 +1,17 @@
+-- The slots of a forest with their capabilities.
+use Rattle.std.specs.Prelude.{ℕ, List, map, slice_index_or}
+use Rattle.dc_base.specs.declared.capabilities.Cap.{Cap}
+use Rattle.dc_base.specs.declared.capabilities.CapKind.TheVariants.{Port}
+use Rattle.dc_base.specs.Capabilities.{Seat}
+use Rattle.dc_mdb.specs.Forests.{Node}
+
+-- stands where no slot is
+abbrev pub no_cap : Cap
+no_cap = record { kind = Port (record { 0 = 0 }); rights = 0 }
+
+-- a slot of the forest, with its capability
+abbrev pub seat_of : List Cap → Node → Seat
+seat_of caps n = record { slot = n.0; cap = slice_index_or caps n.0 no_cap; parent = n.1 }
+
+abbrev pub seats_of : List Cap → List Node → List Seat
+seats_of caps nodes = map (seat_of caps) nodes

@@ -1,0 +1,11 @@
+//! The capabilities of a block.
+#![tactic(auto)]
+
+mod faults;
+mod kinds;
+mod table;
+#[cfg(test)]
+mod tests;
+
+pub use faults::CapFault;
+pub use table::Table;
