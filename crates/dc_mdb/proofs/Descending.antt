@@ -15,7 +15,7 @@ use Rattle.dc_mdb.proofs.Rooted.{rooted_of}
 use Rattle.dc_mdb.proofs.Steps.{reaches_none}
 
 -- one link more
-numbered_more : (j k : ℕ) (links : List Link) → k < length links → numbered node_of j (take (suc k) links) ≡ numbered node_of j (take k links) ++ node_of (j + k) (slice_index_or links k Absent)
+pub numbered_more : (j k : ℕ) (links : List Link) → k < length links → numbered node_of j (take (suc k) links) ≡ numbered node_of j (take k links) ++ node_of (j + k) (slice_index_or links k Absent)
 numbered_more j k [] l = absurd (omega (arith, l))
 numbered_more j zero (x ∷ xs) l = append-nil (node_of j x) ∙ ap (λ n. node_of n x) (let e : j ≡ j + 0 = omega arith in e)
 numbered_more j (suc k) (x ∷ xs) l =

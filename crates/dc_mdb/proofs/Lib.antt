@@ -1,11 +1,12 @@
-mod Ascending
-mod Nodes
-mod Rooted
-mod Ranks
-mod Reaching
-mod Leaving
-mod Steps
-mod Linked
-mod Descending
-mod Clearing
-mod Forested
+pub mod Ascending
+pub mod Nodes
+pub mod Rooted
+pub mod Ranks
+pub mod Reaching
+pub mod Leaving
+pub mod Steps
+pub mod Linked
+pub mod Descending
+pub mod Clearing
+pub mod Slots
+pub mod Forested

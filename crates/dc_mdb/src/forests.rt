@@ -1,9 +1,9 @@
 //! The forest.
 
-ghost use Rattle.std.specs.Prelude.{◌≡◌, ◌<◌, ◌↔◌, [], Some, None, Err, length, OnOk, OnErr, IsErrOf, IsTrue, IsFalse, ◌&&◌};
-ghost use Rattle.dc_mdb.specs.Forests.{IsForest, has_slot, parent_at, with_node, descendants, without_descendants, without_slot};
+ghost use Rattle.std.specs.Prelude.{◌≡◌, ◌<◌, ◌↔◌, [], Some, None, Err, length, map, OnOk, OnErr, IsErrOf, IsTrue, IsFalse, ◌&&◌};
+ghost use Rattle.dc_mdb.specs.Forests.{IsForest, has_slot, parent_at, with_node, descendants, without_descendants, without_slot, Node as Pair};
 
-use crate::links::{Link, all_below, clear, hang, link_at, parent_of};
+use crate::links::{Link, all_below, all_slots, clear, hang, link_at, parent_of};
 use arrayvec::ArrayVec;
 use std::marker::Model;
 
@@ -61,6 +61,14 @@ impl Forest {
         parent_of(&self.links, s)
     }
 
+    /// All slots that are there, ascending.
+    pub fn slots(&self) -> ArrayVec<u32, 256>
+        ensures slots { result.items ≡ map (λ (n : Pair). n.0) self.now }
+        ensures forest { IsForest self.now }
+    {
+        all_slots(&self.links)
+    }
+
     /// All slots that reach `s` by one or more parents, ascending. This takes at most as many steps as the square of the used slots, besides one look at each slot.
     pub fn descendants(&self, s: u32) -> ArrayVec<u32, 256>
         requires { s < 256 }
@@ -103,10 +111,10 @@ impl Forest {
         Ok(())
     }
 
-    /// Takes a slot out. Its children go to its parent, or become roots where it has none.
+    /// Takes a slot out. Its children go to its parent, or become roots where it has none. A forest without the slot stays as it is.
     pub fn remove(&mut self, s: u32) -> Result<(), ForestFault>
         requires { s < 256 }
-        ensures ok { OnOk result (self.new ≡ without_slot s self.old) }
+        ensures after { self.new ≡ without_slot s self.old }
         ensures absent { IsErrOf result ForestFault.Absent ↔ IsFalse (has_slot self.old s) }
         ensures never_used { ¬ IsErrOf result ForestFault.Used }
         ensures err { OnErr result (self.new ≡ self.old) }

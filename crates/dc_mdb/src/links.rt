@@ -96,6 +96,20 @@ pub(crate) fn all_below(links: &[Link], s: u32) -> ArrayVec<u32, 256>
     below
 }
 
+/// All slots that are there, ascending.
+pub(crate) fn all_slots(links: &[Link]) -> ArrayVec<u32, 256>
+    requires { length links.now ≡ 256 }
+    ensures { result.items ≡ map (λ (n : Node). n.0) (nodes_of links.now) }
+{
+    let mut slots = ArrayVec::new();
+    for slot in 0..256 {
+        if link_at(links, slot).is_there() {
+            slots.push(slot);
+        }
+    }
+    slots
+}
+
 /// Each child of `s` gets this link instead.
 pub(crate) fn hang(links: &mut [Link], s: u32, up: Link)
     ensures { links.new ≡ map (with_link s up) links.old }
