@@ -1,6 +1,6 @@
 -- The slots that are there, in order; and a forest without a slot stays as it is when that slot goes.
 use Rattle.std.proofs.Common.{◌≡◌, ℕ, suc, ◌+◌, ◌<◌, List, [], ◌∷◌, ◌++◌, Bool, true, false, Option, Some, None, refl, sym, ap, ◌∙◌, arith, length, map, take}
-use Rattle.std.specs.Prelude.{slice_index_or, slice_get, if◌then◌else◌, filter, not, ◌==◌, IfSome}
+use Rattle.std.specs.Prelude.{slice_index_or, if◌then◌else◌, filter, not, ◌==◌, IfSome}
 use Rattle.std.proofs.lemmas.List.{map-append, append-nil}
 use Rattle.dc_base.specs.Words.{Each, is_number}
 use Rattle.dc_base.proofs.EachLaws.{each_first, each_rest}

@@ -1,4 +1,4 @@
-use Rattle.std.proofs.Common.{◌≡◌, ◌≤◌, ◌<◌, ◌++◌, [], ◌∷◌, sym, ◌∙◌, ap, length, true, false, arith}
+use Rattle.std.proofs.Common.{◌≡◌, ◌<◌, ◌++◌, [], ◌∷◌, sym, ◌∙◌, ap, length, arith}
 use Rattle.std.specs.Prelude.{slice_index_or}
 use Rattle.dc_mdb.specs.declared.links.Link.TheVariants.{Absent}
 use Rattle.dc_mdb.specs.Links.{is_there}
@@ -12,7 +12,7 @@ loop-slot-preserved c =
     let within : k < length links = omega arith in
     let answer : c.is_there.result ≡ is_there (slice_index_or links k Absent) = c.is_there.ensures ∙ ap is_there c.link_at.ensures in
     elim c.if-is_there.branch [
-      then-is_there w ↦ rw w.slots-is (record {
+      | then-is_there w ↦ rw w.slots-is (record {
         items = w.push.ensures.items ∙ ap (λ xs. xs ++ k ∷ []) c.loop-slot.invariant.items ∙ sym (slot_next links k within (sym answer ∙ w.if-is_there.true));
         room = let l = w.push.ensures.len in omega arith;
       })

@@ -14,7 +14,7 @@ invariant_of-self c =
     let used : has_slot (nodes_of links) s ≡ true = ap (λ ns. has_slot ns s) c.self.view_is ∙ sym c.contains.ensures.value ∙ c.if-not-contains.false in
     rw c.hang.ensures (left_forest links c.self.invariant s up refl used (simp (length-set, length-map) (omega arith)))
 
-pub returns-clause-after : goal.returns-2-clause-after
+pub returns-clause-after : goal.returns-clause-after
 returns-clause-after c =
     let links = c.self.inside.links in let s = c.args.s in let up = slice_index_or links s Absent in
     let used : has_slot (nodes_of links) s ≡ true = ap (λ ns. has_slot ns s) c.self.view_is ∙ sym c.contains.ensures.value ∙ c.if-not-contains.false in
