@@ -1,8 +1,8 @@
 -- The slots of a forest with their capabilities.
-use Rattle.std.specs.Prelude.{ℕ, List, map, slice_index_or}
+use Rattle.std.specs.Prelude.{ℕ, List, map, filter, slice_index_or}
 use Rattle.dc_base.specs.declared.capabilities.Cap.{Cap}
 use Rattle.dc_base.specs.declared.capabilities.CapKind.TheVariants.{Port}
-use Rattle.dc_base.specs.Capabilities.{Seat}
+use Rattle.dc_base.specs.Capabilities.{Seat, is_of_line}
 use Rattle.dc_mdb.specs.Forests.{Node}
 
 -- stands where no slot is
@@ -15,3 +15,7 @@ seat_of caps n = record { slot = n.0; cap = slice_index_or caps n.0 no_cap; pare
 
 abbrev pub seats_of : List Cap → List Node → List Seat
 seats_of caps nodes = map (seat_of caps) nodes
+
+-- the slots that hold a capability of this line
+abbrev pub line_slots : ℕ → List Cap → List Node → List ℕ
+line_slots l caps nodes = filter (λ s. is_of_line l (slice_index_or caps s no_cap).kind) (map (λ (n : Node). n.0) nodes)

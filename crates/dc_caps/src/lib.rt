@@ -2,6 +2,7 @@
 #![tactic(auto)]
 
 mod faults;
+mod held;
 mod kinds;
 mod table;
 #[cfg(test)]
