@@ -5,6 +5,8 @@ use Rattle.dc_base.specs.declared.capabilities.Cap.{Cap}
 use Rattle.dc_base.specs.Words.{Each}
 use Rattle.dc_base.specs.Capabilities.{Seat, is_used, with_seat, after_delete, after_revoke}
 use Rattle.dc_mdb.specs.Forests.{Node, has_slot, with_node, without_slot, without_descendants}
+use Rattle.dc_mdb.specs.declared.forests.ForestFault.{ForestFault}
+use Rattle.dc_mdb.specs.declared.forests.ForestFault.TheVariants.{Absent, Used}
 use Rattle.dc_caps.specs.declared.faults.CapFault.{CapFault}
 use Rattle.dc_caps.specs.declared.faults.CapFault.TheVariants.{EmptySlot, UsedSlot}
 use Rattle.dc_caps.specs.declared.table.Table.TheInside.{Inside}
@@ -80,3 +82,16 @@ both_true false b f = absurd cc
 
 pub never_ok : {X E : Type 0} (x : X) (e : E) → Ok x ≡ Err e → ⊥
 never_ok x e h = cc
+
+pub only_used : (e : ForestFault) → (e ≡ Absent → ⊥) → e ≡ Used
+only_used Absent f = absurd (f refl)
+only_used Used f = refl
+
+pub only_absent : (e : ForestFault) → (e ≡ Used → ⊥) → e ≡ Absent
+only_absent Absent f = refl
+only_absent Used f = absurd (f refl)
+
+pub graft_done : (set : List Seat) (from slot : ℕ) → is_used set from ≡ true → is_used set slot ≡ false → answer_of (child_fault set from slot) ≡ Ok tt
+graft_done set from slot u f =
+    ap (λ a. answer_of (if not a then Some EmptySlot else if is_used set slot then Some UsedSlot else None)) u
+    ∙ ap (λ b. answer_of (if b then Some UsedSlot else None)) f

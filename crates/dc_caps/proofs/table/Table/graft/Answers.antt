@@ -19,7 +19,8 @@ returns-in-Ok-clause-answer c =
 pub returns-in-Ok-clause-ok : goal.returns-in-Ok-clause-ok
 returns-in-Ok-clause-ok c =
     let p = places (goal.at.returns-in-Ok-clause-ok c).In-Ok in
-    put_now c.self.inside c.args.self.now c.self.view_is c.child.new.self c.args.s.0 c.args.cap (Some c.args.parent.0) c.in-Ok.ensures.ok (omega arith) p.1
+    let d : c.self.inside.disps ≡ c.args.self.now.disps = ap (λ (t : Caps). t.disps) c.self.view_is in
+    put_now c.self.inside c.args.self.now c.self.view_is c.child.new.self c.args.s.0 c.args.cap (Some c.args.parent.0) c.in-Ok.ensures.ok (omega (arith, d)) p.1
 
 pub returns-in-Err-Absent-clause-answer : goal.returns-in-Err-Absent-clause-answer
 returns-in-Err-Absent-clause-answer c =

@@ -13,4 +13,4 @@ pub returns-in-Some : goal.returns-in-Some
 returns-in-Some c = sym c.in-Some.is ∙ found (goal.at.returns-in-Some c).After-parent
 
 pub returns-in-None : goal.returns-in-None
-returns-in-None c = ?
+returns-in-None c = sym c.in-None.is ∙ found (goal.at.returns-in-None c).After-parent

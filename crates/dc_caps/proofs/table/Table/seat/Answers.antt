@@ -3,7 +3,7 @@ use Rattle.dc_base.specs.Capabilities.{with_root}
 use Rattle.dc_mdb.specs.Forests.{has_slot}
 use Rattle.dc_caps.specs.Caps.{Caps}
 use Rattle.dc_caps.specs.Outcomes.{answer_of, root_fault}
-use Rattle.dc_caps.proofs.Changing.{put_now, put_kept, root_answer, free_where, there_where, never_ok}
+use Rattle.dc_caps.proofs.Changing.{put_now, put_kept, root_answer, free_where, only_used, never_ok}
 use Rattle.dc_caps.proofs.table.Table.seat.Goals.{In-Ok}
 use Rattle.dc_caps.proofs.table.Table.seat.Goals as goal
 
@@ -25,4 +25,6 @@ returns-in-Ok-clause-ok c =
     ∙ ap (λ s. record c.args.self.now { set = with_root s c.args.cap c.args.self.now.set }) c.slot_of-slot.ensures.value
 
 pub returns-in-Err-clause-answer : goal.returns-in-Err-clause-answer
-returns-in-Err-clause-answer c = ?
+returns-in-Err-clause-answer c =
+    let h = c.in-Err.ensures.used.0 (ap Err (only_used c.in-Err.field-0 (λ e. c.in-Err.ensures.never_absent (ap Err e)))) in
+    sym (ap (λ s. answer_of (root_fault c.args.self.now.set s)) (sym c.slot_of-slot.ensures.value) ∙ root_answer c.self.inside c.args.self.now c.self.view_is c.slot_of-slot.result.0 true h)
