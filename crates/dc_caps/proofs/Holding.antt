@@ -1,7 +1,12 @@
 -- What the slots of a forest hold: a child that meets a range, and the slots of a line.
 use Rattle.std.proofs.Common.{◌≡◌, ℕ, zero, suc, ◌+◌, ◌<◌, ◌≤◌, List, [], ◌∷◌, ◌++◌, Bool, true, false, Option, Some, None, refl, sym, ap, ◌∙◌, subst, arith, length, map, take}
-use Rattle.std.specs.Prelude.{slice_index_or, slice_get, ◌==◌, ◌&&◌, ◌||◌, if◌then◌else◌, filter, fold, is_some}
+use Rattle.std.specs.Prelude.{slice_index, slice_index_or, slice_get, ◌==◌, ◌&&◌, ◌||◌, if◌then◌else◌, filter, fold, is_some}
 use Rattle.std.specs.List.{list_any}
+use Rattle.std.proofs.lemmas.List.{take_more, append-nil}
+use Rattle.std.proofs.lemmas.List.Elements.{filter-append}
+use Rattle.std.proofs.lemmas.List.Sums.{fold-append}
+use Rattle.std.proofs.lemmas.Option.{slice_get-get_or}
+use Rattle.dc_mdb.proofs.Ascending.{map_there}
 use Rattle.std.proofs.lemmas.Bool.Decides.{nat_tests}
 use Rattle.dc_base.specs.declared.capabilities.Cap.{Cap}
 use Rattle.dc_base.specs.Words.{Each, is_number}
@@ -98,3 +103,27 @@ module _ (caps : List Cap) where
 pub taken_within : (slots : List ℕ) (t : Inside) → IsWithin t → IsWithin (record t { forest = fold (λ nodes s. without_slot s nodes) t.forest slots })
 taken_within [] t w = w
 taken_within (s ∷ ss) t w = taken_within ss (record t { forest = without_slot s t.forest }) (deleted_within t w s)
+
+-- one slot more is looked at
+module _ (p : ℕ → Bool) (slots : List ℕ) (i : ℕ) (within : i < length slots) (init nodes : List Node) (before : nodes ≡ fold (λ nodes s. without_slot s nodes) init (filter p (take i slots))) where
+  abbrev here : ℕ
+  here = slice_index slots i
+
+  looked : (t : Bool) → p here ≡ t → filter p (take (i + 1) slots) ≡ filter p (take i slots) ++ (if t then here ∷ [] else [])
+  looked t e = ap (filter p) (take_more slots i 0 within) ∙ filter-append p (take i slots) (here ∷ []) ∙ ap (λ t. filter p (take i slots) ++ (if t then here ∷ [] else [])) e
+
+  pub line_taken : p here ≡ true → (after : List Node) → after ≡ without_slot here nodes → after ≡ fold (λ nodes s. without_slot s nodes) init (filter p (take (i + 1) slots))
+  line_taken e after h =
+      h ∙ ap (without_slot here) before
+      ∙ sym (fold-append (λ nodes s. without_slot s nodes) init (filter p (take i slots)) (here ∷ []))
+      ∙ ap (fold (λ nodes s. without_slot s nodes) init) (sym (looked true e))
+
+  pub line_passed : p here ≡ false → (after : List Node) → after ≡ nodes → after ≡ fold (λ nodes s. without_slot s nodes) init (filter p (take (i + 1) slots))
+  line_passed e after h = h ∙ before ∙ ap (fold (λ nodes s. without_slot s nodes) init) (sym (looked false e ∙ append-nil (filter p (take i slots))))
+
+pub slots_below : (nodes : List Node) → IsForest nodes → (slots : List ℕ) → slots ≡ map (λ (n : Node). n.0) nodes → (i : ℕ) → i < length slots → slice_index slots i < 256
+slots_below nodes f slots e i l =
+    let at : slice_get (map (λ (n : Node). n.0) nodes) i ≡ Some (slice_index slots i) = ap (λ ss. slice_get ss i) (sym e) ∙ slice_get-get_or slots i 0 l in
+    let m = map_there (λ (n : Node). n.0) nodes i (slice_index slots i) at in
+    let b = f.below i m.0 m.1 in let q = m.2 in
+    omega (arith, b, q)

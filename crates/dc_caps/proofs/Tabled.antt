@@ -4,6 +4,10 @@ use Rattle.std.specs.Prelude.{slice_index_or, slice_set, slice_get, ◌==◌, no
 use Rattle.dc_base.specs.declared.capabilities.Cap.{Cap}
 use Rattle.dc_base.specs.Words.{Each, is_number}
 use Rattle.dc_base.specs.Capabilities.{Seat, is_used}
+use Rattle.std.proofs.lemmas.Nat.{and_le_l}
+use Rattle.std.proofs.lemmas.List.{length-map}
+use Rattle.std.proofs.lemmas.List.Filters.{length-filter_both}
+use Rattle.dc_base.specs.Kernel.{with_mask, memory_cap}
 use Rattle.dc_base.specs.KeptByBlocks.{Falls}
 use Rattle.dc_base.proofs.EachLaws.{each_nil, each_cons, each-set}
 use Rattle.dc_mdb.specs.Forests as forest
@@ -92,3 +96,20 @@ module _ (t : Inside) (w : IsWithin t) where
 
   pub revoked_within : (s : ℕ) → IsWithin (record t { forest = without_descendants s t.forest })
   revoked_within s = fewer (without_descendants s t.forest) (each_filter (λ (n : Node). n.0 < 16 * t.disps) (λ (n : Node). not (forest.reaches t.forest s n)) t.forest w.slots)
+
+pub masked_is : (cap : Cap) (mask : ℕ) → IsCap cap → IsCap (with_mask mask cap)
+masked_is cap mask h = let l = and_le_l cap.rights mask in let r = h.rights in record { rights = omega (arith, l, r); range = h.range }
+
+-- words within those of another are memory too
+pub memory_is : (into_frame : Bool) (first room offset size rights : ℕ) → 0 < size → offset + size ≤ room → first + room ≤ 4096 → rights ≤ 7 → IsCap (memory_cap into_frame (first + offset) size rights)
+memory_is true first room offset size rights some fits within few = record { rights = few; range = (some, omega (arith, fits, within)) }
+memory_is false first room offset size rights some fits within few = record { rights = few; range = (some, omega (arith, fits, within)) }
+
+-- those that go and those that stay are all
+pub revoked_count : (caps : List Cap) (nodes : List Node) (s : ℕ) → length (forest.descendants nodes s) + length (seats_of caps (without_descendants s nodes)) ≡ length (seats_of caps nodes)
+revoked_count caps nodes s =
+    let a = length-map (filter (forest.reaches nodes s) nodes) (λ (n : Node). n.0) in
+    let b = length-map (without_descendants s nodes) (seat_of caps) in
+    let c = length-map nodes (seat_of caps) in
+    let d = length-filter_both (forest.reaches nodes s) (λ (n : Node). not (forest.reaches nodes s n)) (λ n. refl) nodes in
+    omega (arith, a, b, c, d)

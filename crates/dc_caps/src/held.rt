@@ -1,6 +1,6 @@
 //! What the slots of a forest hold, with one capability for each slot.
 
-ghost use Rattle.std.specs.Prelude.{◌≡◌, ◌+◌, ◌≤◌, length, fold};
+ghost use Rattle.std.specs.Prelude.{◌≡◌, ◌+◌, ◌<◌, ◌≤◌, length, fold};
 ghost use Rattle.dc_base.specs.Words.{Each};
 ghost use Rattle.dc_base.specs.Capabilities.{has_child_within};
 ghost use Rattle.dc_mdb.specs.Forests.{IsForest, without_slot};
