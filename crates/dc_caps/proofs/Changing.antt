@@ -48,9 +48,6 @@ module _ (t : Inside) (now : Caps) (seen : caps_seen t ≡ now) where
   pub revoked_kept : IsWithin t → (nodes : List Node) (s : ℕ) → nodes ≡ without_descendants s t.forest → IsWithin (record t { forest = nodes })
   revoked_kept w nodes s e = subst (λ ns. IsWithin (record t { forest = ns })) (sym e) (revoked_within t w s)
 
-  pub same_kept : IsWithin t → (nodes : List Node) → nodes ≡ t.forest → IsWithin (record t { forest = nodes })
-  same_kept w nodes e = subst (λ ns. IsWithin (record t { forest = ns })) (sym e) w
-
   -- answers
 
   pub root_answer : (s : ℕ) (b : Bool) → has_slot t.forest s ≡ b → answer_of (root_fault now.set s) ≡ answer_of (if b then Some UsedSlot else None)
@@ -90,8 +87,3 @@ only_used Used f = refl
 pub only_absent : (e : ForestFault) → (e ≡ Used → ⊥) → e ≡ Absent
 only_absent Absent f = refl
 only_absent Used f = absurd (f refl)
-
-pub graft_done : (set : List Seat) (from slot : ℕ) → is_used set from ≡ true → is_used set slot ≡ false → answer_of (child_fault set from slot) ≡ Ok tt
-graft_done set from slot u f =
-    ap (λ a. answer_of (if not a then Some EmptySlot else if is_used set slot then Some UsedSlot else None)) u
-    ∙ ap (λ b. answer_of (if b then Some UsedSlot else None)) f

@@ -7,7 +7,7 @@ use Rattle.dc_base.specs.Capabilities.{Seat, is_used}
 use Rattle.std.proofs.lemmas.Nat.{and_le_l}
 use Rattle.std.proofs.lemmas.List.{length-map}
 use Rattle.std.proofs.lemmas.List.Filters.{length-filter_both}
-use Rattle.dc_base.specs.Kernel.{with_mask, memory_cap}
+use Rattle.dc_base.specs.Kernel.{with_mask}
 use Rattle.dc_base.specs.KeptByBlocks.{Falls}
 use Rattle.dc_base.proofs.EachLaws.{each_nil, each_cons, each-set}
 use Rattle.dc_mdb.specs.Forests as forest
@@ -99,11 +99,6 @@ module _ (t : Inside) (w : IsWithin t) where
 
 pub masked_is : (cap : Cap) (mask : ℕ) → IsCap cap → IsCap (with_mask mask cap)
 masked_is cap mask h = let l = and_le_l cap.rights mask in let r = h.rights in record { rights = omega (arith, l, r); range = h.range }
-
--- words within those of another are memory too
-pub memory_is : (into_frame : Bool) (first room offset size rights : ℕ) → 0 < size → offset + size ≤ room → first + room ≤ 4096 → rights ≤ 7 → IsCap (memory_cap into_frame (first + offset) size rights)
-memory_is true first room offset size rights some fits within few = record { rights = few; range = (some, omega (arith, fits, within)) }
-memory_is false first room offset size rights some fits within few = record { rights = few; range = (some, omega (arith, fits, within)) }
 
 -- those that go and those that stay are all
 pub revoked_count : (caps : List Cap) (nodes : List Node) (s : ℕ) → length (forest.descendants nodes s) + length (seats_of caps (without_descendants s nodes)) ≡ length (seats_of caps nodes)

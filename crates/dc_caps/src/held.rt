@@ -28,7 +28,13 @@ fn is_child_within(forest: &Forest, caps: &[Cap], slot: u32, s: u32, first: u32,
 }
 
 /// Whether a child of the slot is memory that meets the `words` words from `first` on.
-pub(crate) fn has_child_within(forest: &Forest, caps: &[Cap], slot: u32, first: u32, words: u32) -> bool
+pub(crate) fn has_child_within(
+    forest: &Forest,
+    caps: &[Cap],
+    slot: u32,
+    first: u32,
+    words: u32,
+) -> bool
     requires length { length caps.now ≡ 256 }
     requires caps { Each caps.now (λ i cap. IsCap cap) }
     requires range { first + words ≤ 4096 }

@@ -4,6 +4,8 @@
 mod faults;
 mod held;
 mod kinds;
+#[cfg(test)]
+mod plain;
 mod table;
 #[cfg(test)]
 mod tests;

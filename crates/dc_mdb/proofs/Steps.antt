@@ -12,12 +12,6 @@ reaches_none (suc n) nodes s = refl
 pub reaches_some : (n k : ℕ) (nodes : List Node) (s p : ℕ) → k < n → reaches_in (n - k) nodes s (Some p) ≡ (p == s || reaches_in (n - (k + 1)) nodes s (parent_at nodes p))
 reaches_some n k nodes s p l = let e : n - k ≡ suc (n - (k + 1)) = omega (arith, l) in ap (λ m. reaches_in m nodes s (Some p)) e
 
-pub reaches_out : (n k : ℕ) (nodes : List Node) (s : ℕ) (o : Option ℕ) → n ≤ k → reaches_in (n - k) nodes s o ≡ false
-reaches_out n k nodes s o l = let e : n - k ≡ 0 = omega (arith, l) in ap (λ m. reaches_in m nodes s o) e
-
-pub reaches_all : (n : ℕ) (nodes : List Node) (s : ℕ) (o : Option ℕ) → reaches_in (n - 0) nodes s o ≡ reaches_in n nodes s o
-reaches_all n nodes s o = let e : n - 0 ≡ n = omega arith in ap (λ m. reaches_in m nodes s o) e
-
 -- one more step is made, past another slot
 pub reaches_next : (n k : ℕ) (nodes : List Node) (s p : ℕ) (above next : Option ℕ) (r : Bool) → k < n → above ≡ Some p → (p ≡ s → ⊥) → next ≡ parent_at nodes p → r ≡ reaches_in (n - k) nodes s above → r ≡ reaches_in (n - (k + 1)) nodes s next
 reaches_next n k nodes s p above next r l a ne e h =

@@ -13,7 +13,7 @@ loop-slot-preserved c =
     let p : ℕ → Bool = λ s. is_of_line c.args.line.0 (slice_index_or c.args.caps.now s no_cap).kind in
     let answer : c.is_of_line.result ≡ p (slice_index slots i) = c.is_of_line.ensures ∙ ap (λ (cap : Cap). is_of_line c.args.line.0 cap.kind) c.cap_in.ensures in
     elim c.if-is_of_line.branch [
-      then-is_of_line w ↦ line_taken p slots i c.loop-slot-test.true c.args.forest.now c.loop-slot.forest c.loop-slot.invariant (sym answer ∙ w.if-is_of_line.true) c.if-is_of_line.forest (w.forest-is ∙ w.remove.ensures.after)
+      | then-is_of_line w ↦ line_taken p slots i c.loop-slot-test.true c.args.forest.now c.loop-slot.forest c.loop-slot.invariant (sym answer ∙ w.if-is_of_line.true) c.if-is_of_line.forest (w.forest-is ∙ w.remove.ensures.after)
       | else-is_of_line w ↦ line_passed p slots i c.loop-slot-test.true c.args.forest.now c.loop-slot.forest c.loop-slot.invariant (sym answer ∙ w.if-is_of_line.false) c.if-is_of_line.forest w.forest-is
     ]
 

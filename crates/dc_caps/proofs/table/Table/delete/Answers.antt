@@ -16,9 +16,9 @@ returns-clause-call c p same many =
     let now = c.args.self.now in let s = c.slot_of-slot.result.0 in let to = c.slot_of-slot.ensures.value in
     let after : Caps = caps_seen (record c.self.inside { forest = c.remove.new.self }) in
     let is_after : after ≡ record now { set = after_delete (slot_number c.args.d.0 c.args.a) now.set } =
-      deleted_now c.self.inside now c.self.view_is c.remove.new.self s c.remove.ensures.after ∙ ap (λ s. record now { set = after_delete s now.set }) to in
+    deleted_now c.self.inside now c.self.view_is c.remove.new.self s c.remove.ensures.after ∙ ap (λ s. record now { set = after_delete s now.set }) to in
     let used = used_now c.self.inside now c.self.view_is s in
     elim c.match-remove.branch [
-      in-Ok w ↦ rw w.result-is (delete_made p now same _ after (ap (is_used now.set) (sym to) ∙ used ∙ there_where _ (λ h. never_ok _ _ (sym w.in-Ok.is ∙ c.remove.ensures.absent.1 h))) is_after)
+      | in-Ok w ↦ rw w.result-is (delete_made p now same _ after (ap (is_used now.set) (sym to) ∙ used ∙ there_where _ (λ h. never_ok _ _ (sym w.in-Ok.is ∙ c.remove.ensures.absent.1 h))) is_after)
       | in-Err w ↦ rw w.result-is (delete_empty p now same _ (ap (is_used now.set) (sym to) ∙ used ∙ c.remove.ensures.absent.0 (w.in-Err.is ∙ ap Err (only_absent _ (λ q. c.remove.ensures.never_used (w.in-Err.is ∙ ap Err q))))))
     ]

@@ -17,7 +17,7 @@ returns-clause-call c p same many =
     let now = c.args.self.now in let s = c.slot_of-slot.result.0 in let to = c.slot_of-slot.ensures.value in
     let after : Caps = caps_seen (record c.self.inside { forest = c.prune.new.self }) in
     let is_after : after ≡ record now { set = after_revoke (slot_number c.args.d.0 c.args.a) now.set } =
-      revoked_now c.self.inside now c.self.view_is c.prune.new.self s c.prune.ensures.after ∙ ap (λ s. record now { set = after_revoke s now.set }) to in
+    revoked_now c.self.inside now c.self.view_is c.prune.new.self s c.prune.ensures.after ∙ ap (λ s. record now { set = after_revoke s now.set }) to in
     revoke_made p now same _ after (ap (is_used now.set) (sym to) ∙ sym c.is_used.ensures ∙ c.if-not-is_used.false) is_after
 
 pub returns-clause-count : goal.returns-clause-count
