@@ -1,16 +1,11 @@
 -- What the kernel calls on a table come to.
-use Rattle.std.proofs.Common.{◌≡◌, ℕ, ◌+◌, ◌<◌, ◌≤◌, List, Bool, true, false, Option, Some, None, refl, sym, ap, ◌∙◌, subst, length}
-use Rattle.std.specs.Prelude.{not, if◌then◌else◌, ◌&&◌, ◌||◌, ◌==◌, nat_lt, nat_le, is_none, is_some, Result, Ok, Err, OnOk}
+use Rattle.std.proofs.Common.{◌≡◌, ℕ, List, Bool, true, false, Option, Some, None, refl, sym, ap, ◌∙◌}
+use Rattle.std.specs.Prelude.{not, if◌then◌else◌, is_none, is_some}
 use Rattle.std.specs.Option.{option_map}
-use Rattle.dc_base.specs.declared.capabilities.Cap.{Cap}
-use Rattle.dc_base.specs.declared.capabilities.CapKind.{CapKind}
-use Rattle.dc_base.specs.declared.capabilities.CapKind.TheVariants.{Ram}
-use Rattle.dc_base.specs.Capabilities.{Seat, seat_at, cap_at, is_used, with_child, after_delete, after_revoke, has_child_within, is_ram, first_word, range_length, lacks, write_right, grant_right}
-use Rattle.dc_base.specs.Kernel.{Call, faults, makes, with_mask, memory_cap, copy_call, retype_call, delete_call, revoke_call}
+use Rattle.dc_base.specs.Capabilities.{Seat, seat_at, cap_at, is_used, after_delete, after_revoke}
+use Rattle.dc_base.specs.Kernel.{Call, faults, makes, delete_call, revoke_call}
 use Rattle.dc_base.specs.Parts.{Parts}
-use Rattle.dc_caps.specs.declared.faults.CapFault.{CapFault}
 use Rattle.dc_caps.specs.Caps.{Caps}
-use Rattle.dc_caps.specs.Outcomes.{outcome}
 
 none_where : (set : List Seat) (s : ℕ) (b : Bool) → is_used set s ≡ b → is_none (cap_at set s) ≡ not b
 none_where set s b u = by_seat (seat_at set s) ∙ ap not u

@@ -1,13 +1,11 @@
 -- A table, as its fields change.
-use Rattle.std.proofs.Common.{◌≡◌, ℕ, ◌+◌, ◌*◌, ◌<◌, ◌≤◌, List, Bool, true, false, Option, Some, None, refl, sym, ap, ◌∙◌, subst, arith, length}
-use Rattle.std.specs.Prelude.{slice_set, not, if◌then◌else◌, ◌&&◌, Result, Ok, Err}
+use Rattle.std.proofs.Common.{◌≡◌, ℕ, ◌*◌, ◌<◌, List, Bool, true, false, Option, Some, None, refl, sym, ap, ◌∙◌, subst, length}
+use Rattle.std.specs.Prelude.{slice_set, not, if◌then◌else◌, ◌&&◌, Ok, Err}
 use Rattle.dc_base.specs.declared.capabilities.Cap.{Cap}
-use Rattle.dc_base.specs.Words.{Each}
 use Rattle.dc_base.specs.Capabilities.{Seat, is_used, with_seat, after_delete, after_revoke}
 use Rattle.dc_mdb.specs.Forests.{Node, has_slot, with_node, without_slot, without_descendants}
 use Rattle.dc_mdb.specs.declared.forests.ForestFault.{ForestFault}
 use Rattle.dc_mdb.specs.declared.forests.ForestFault.TheVariants.{Absent, Used}
-use Rattle.dc_caps.specs.declared.faults.CapFault.{CapFault}
 use Rattle.dc_caps.specs.declared.faults.CapFault.TheVariants.{EmptySlot, UsedSlot}
 use Rattle.dc_caps.specs.declared.table.Table.TheInside.{Inside}
 use Rattle.dc_caps.specs.Caps.{Caps, IsCap}

@@ -1,6 +1,6 @@
 -- What the slots of a forest hold: a child that meets a range, and the slots of a line.
-use Rattle.std.proofs.Common.{◌≡◌, ℕ, zero, suc, ◌+◌, ◌<◌, ◌≤◌, List, [], ◌∷◌, ◌++◌, Bool, true, false, Option, Some, None, refl, sym, ap, ◌∙◌, subst, arith, length, map, take}
-use Rattle.std.specs.Prelude.{slice_index, slice_index_or, slice_get, ◌==◌, ◌&&◌, ◌||◌, if◌then◌else◌, filter, fold, is_some}
+use Rattle.std.proofs.Common.{◌≡◌, ℕ, zero, suc, ◌+◌, ◌<◌, List, [], ◌∷◌, ◌++◌, Bool, true, false, Option, Some, None, refl, sym, ap, ◌∙◌, arith, length, map, take}
+use Rattle.std.specs.Prelude.{slice_index, slice_index_or, slice_get, ◌==◌, ◌&&◌, ◌||◌, if◌then◌else◌, filter, fold}
 use Rattle.std.specs.List.{list_any}
 use Rattle.std.proofs.lemmas.List.{take_more, append-nil}
 use Rattle.std.proofs.lemmas.List.Elements.{filter-append}
@@ -12,7 +12,7 @@ use Rattle.dc_base.specs.declared.capabilities.Cap.{Cap}
 use Rattle.dc_base.specs.Words.{Each, is_number}
 use Rattle.dc_base.proofs.EachLaws.{each_first, each_rest}
 use Rattle.dc_base.specs.Capabilities.{Seat, is_memory_within, has_child_within, is_of_line, slots_of_line, without_line, after_delete}
-use Rattle.dc_mdb.specs.Forests.{Node, node_at, has_slot, parent_at, parent_in, without_slot, IsForest}
+use Rattle.dc_mdb.specs.Forests.{Node, node_at, parent_at, parent_in, without_slot, IsForest}
 use Rattle.dc_mdb.proofs.Nodes.{there_used, used_node, node_found}
 use Rattle.dc_caps.specs.Seats.{no_cap, seat_of, seats_of, line_slots, child_within}
 use Rattle.dc_caps.specs.Tables.{IsWithin}

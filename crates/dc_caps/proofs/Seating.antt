@@ -1,6 +1,6 @@
 -- The slots of a forest with their capabilities, read and changed.
-use Rattle.std.proofs.Common.{◌≡◌, ℕ, zero, suc, ◌+◌, ◌<◌, ◌≤◌, List, [], ◌∷◌, ◌++◌, Bool, true, false, Option, Some, None, refl, sym, ap, ◌∙◌, subst, arith, length, map}
-use Rattle.std.specs.Prelude.{slice_index_or, slice_set, slice_get, nat_lt, ◌==◌, ◌||◌, not, if◌then◌else◌, filter, is_some}
+use Rattle.std.proofs.Common.{◌≡◌, ℕ, zero, suc, ◌<◌, List, [], ◌∷◌, Bool, true, false, Option, Some, None, refl, sym, ap, ◌∙◌, arith, length, map}
+use Rattle.std.specs.Prelude.{slice_index_or, slice_set, nat_lt, ◌==◌, ◌||◌, not, if◌then◌else◌, filter, is_some}
 use Rattle.std.specs.Option.{option_map}
 use Rattle.std.proofs.lemmas.List.{length-map}
 use Rattle.dc_base.specs.declared.capabilities.Cap.{Cap}
@@ -9,7 +9,7 @@ use Rattle.dc_base.specs.Capabilities as spec
 use Rattle.dc_base.specs.Capabilities.{Seat, seat_at, cap_at, is_used, parent_in, with_seat, with_parent, after_revoke, after_delete}
 use Rattle.dc_mdb.specs.Forests as forest
 use Rattle.dc_mdb.specs.Forests.{Node, node_at, has_slot, with_node, without_slot, without_descendants}
-use Rattle.dc_mdb.proofs.Ascending.{is_same, not_same, other_is, same_is}
+use Rattle.dc_mdb.proofs.Ascending.{is_same, not_same}
 use Rattle.dc_caps.specs.Seats.{no_cap, seat_of, seats_of}
 
 module _ (caps : List Cap) where

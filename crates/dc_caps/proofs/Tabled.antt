@@ -1,6 +1,6 @@
 -- What a table keeps.
-use Rattle.std.proofs.Common.{◌≡◌, ℕ, zero, suc, ◌+◌, ◌*◌, ◌<◌, ◌≤◌, List, [], ◌∷◌, ◌++◌, Bool, true, false, Option, Some, None, refl, sym, ap, ◌∙◌, subst, arith, length, map, replicate}
-use Rattle.std.specs.Prelude.{slice_index_or, slice_set, slice_get, ◌==◌, not, if◌then◌else◌, filter, IfSome, is_some}
+use Rattle.std.proofs.Common.{◌≡◌, ℕ, zero, suc, ◌+◌, ◌*◌, ◌<◌, ◌≤◌, List, [], ◌∷◌, Bool, true, false, Option, Some, None, refl, sym, ap, ◌∙◌, subst, arith, length, replicate}
+use Rattle.std.specs.Prelude.{slice_index_or, slice_set, slice_get, ◌==◌, not, if◌then◌else◌, filter, IfSome}
 use Rattle.dc_base.specs.declared.capabilities.Cap.{Cap}
 use Rattle.dc_base.specs.Words.{Each, is_number}
 use Rattle.dc_base.specs.Capabilities.{Seat, is_used}
@@ -8,13 +8,12 @@ use Rattle.std.proofs.lemmas.Nat.{and_le_l}
 use Rattle.std.proofs.lemmas.List.{length-map}
 use Rattle.std.proofs.lemmas.List.Filters.{length-filter_both}
 use Rattle.dc_base.specs.Kernel.{with_mask}
-use Rattle.dc_base.specs.KeptByBlocks.{Falls}
 use Rattle.dc_base.proofs.EachLaws.{each_nil, each_cons, each-set}
 use Rattle.dc_mdb.specs.Forests as forest
 use Rattle.dc_mdb.specs.Forests.{Node, has_slot, with_node, without_slot, without_descendants, IsForest}
-use Rattle.dc_mdb.proofs.Ascending.{map_there, was_there, each_filter}
+use Rattle.dc_mdb.proofs.Ascending.{map_there, each_filter}
 use Rattle.dc_mdb.proofs.Nodes.{each_put}
-use Rattle.dc_caps.specs.Caps.{Caps, IsCap, IsRange, IsTable}
+use Rattle.dc_caps.specs.Caps.{IsCap, IsTable}
 use Rattle.dc_caps.specs.Seats.{no_cap, seat_of, seats_of}
 use Rattle.dc_caps.specs.Tables.{IsWithin}
 use Rattle.dc_caps.specs.declared.table.Table.TheInside.{Inside}

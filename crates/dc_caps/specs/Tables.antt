@@ -1,9 +1,6 @@
 -- What the fields of a table stand for.
-use Rattle.std.specs.Prelude.{ℕ, ◌*◌, ◌<◌, ◌≤◌, List, map, slice_index_or}
-use Rattle.dc_base.specs.declared.capabilities.Cap.{Cap}
-use Rattle.dc_base.specs.declared.capabilities.CapKind.TheVariants.{Port}
+use Rattle.std.specs.Prelude.{◌*◌, ◌<◌, ◌≤◌}
 use Rattle.dc_base.specs.Words.{Each}
-use Rattle.dc_base.specs.Capabilities.{Seat}
 use Rattle.dc_mdb.specs.Forests.{Node}
 use Rattle.dc_caps.specs.declared.table.Table.TheInside.{Inside}
 use Rattle.dc_caps.specs.Caps.{Caps, IsCap}

@@ -1,6 +1,7 @@
 //! A plain list of slots with their capabilities and parents, which the tests hold the table against.
 
 ghost use Rattle.std.specs.Prelude.{◌<◌};
+ghost use Rattle.dc_caps.specs.Caps.{IsCap};
 
 use crate::{CapFault, Table};
 use dc_base::capabilities::{Cap, CapKind};
@@ -194,7 +195,9 @@ fn give(list: &mut Vec<Triple>, line: LineNo) {
 }
 
 /// A capability to begin with.
-fn some_cap(seed: &mut u64) -> Cap {
+fn some_cap(seed: &mut u64) -> Cap
+    ensures { IsCap result }
+{
     let kind = match next(seed, 4) {
         0 => CapKind::Line(LineNo(next(seed, 2))),
         1 => CapKind::Signal(SignalNo(0)),
@@ -203,7 +206,7 @@ fn some_cap(seed: &mut u64) -> Cap {
             length: 1 + next(seed, 60),
         },
     };
-    let rights = (next(seed, 8)) as u8;
+    let rights = next(seed, 8) as u8;
     Cap { kind, rights }
 }
 

@@ -1,4 +1,4 @@
-use Rattle.std.proofs.Common.{◌≡◌, ◌<◌, ◌≤◌, ℕ, arith, sym, ◌∙◌}
+use Rattle.std.proofs.Common.{arith, sym, ◌∙◌}
 use Rattle.dc_caps.proofs.Holding.{no_child, a_child}
 use Rattle.dc_caps.proofs.held.has_child_within.Goals as goal
 

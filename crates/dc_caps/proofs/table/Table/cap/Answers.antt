@@ -1,4 +1,4 @@
-use Rattle.std.proofs.Common.{◌≡◌, Some, None, sym, ◌∙◌, ap, subst, true, false, if◌then◌else◌}
+use Rattle.std.proofs.Common.{Some, None, sym, ◌∙◌, ap, subst, if◌then◌else◌}
 use Rattle.std.specs.Prelude.{slice_index_or}
 use Rattle.dc_base.specs.Capabilities.{cap_at}
 use Rattle.dc_caps.specs.Caps.{Caps, IsCap, IsTable}

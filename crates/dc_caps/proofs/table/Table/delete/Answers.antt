@@ -1,6 +1,5 @@
-use Rattle.std.proofs.Common.{◌≡◌, refl, Err, sym, ◌∙◌, ap, true, false, Some, None}
-use Rattle.dc_base.specs.Capabilities.{cap_at, is_used, after_delete, slot_number}
-use Rattle.dc_base.specs.Kernel.{delete_call}
+use Rattle.std.proofs.Common.{◌≡◌, Err, sym, ◌∙◌, ap}
+use Rattle.dc_base.specs.Capabilities.{is_used, after_delete, slot_number}
 use Rattle.dc_caps.specs.Caps.{Caps}
 use Rattle.dc_caps.specs.Tables.{caps_seen}
 use Rattle.dc_caps.proofs.Called.{delete_made, delete_empty}

@@ -1,4 +1,4 @@
-use Rattle.std.proofs.Common.{◌≡◌, List, sym, ◌∙◌, ap, subst}
+use Rattle.std.proofs.Common.{List, sym, ◌∙◌, ap, subst}
 use Rattle.dc_base.specs.Capabilities.{Seat, without_line}
 use Rattle.dc_caps.specs.Caps.{Caps}
 use Rattle.dc_caps.specs.Seats.{seats_of, line_slots}

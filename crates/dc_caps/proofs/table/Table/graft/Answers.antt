@@ -1,4 +1,4 @@
-use Rattle.std.proofs.Common.{◌≡◌, refl, Err, sym, ◌∙◌, ap, true, false, Some, None, arith, ◌<◌, ◌≤◌, length}
+use Rattle.std.proofs.Common.{◌≡◌, refl, Err, sym, ap, true, false, Some, arith}
 use Rattle.dc_mdb.specs.Forests.{has_slot}
 use Rattle.dc_caps.specs.Caps.{Caps}
 use Rattle.dc_caps.proofs.Changing.{put_now, put_kept, child_answer, put_where, both_true, never_ok}

@@ -1,4 +1,4 @@
-use Rattle.std.proofs.Common.{◌≡◌, sym, ◌∙◌, ap}
+use Rattle.std.proofs.Common.{sym, ◌∙◌, ap}
 use Rattle.dc_base.specs.Capabilities.{is_used}
 use Rattle.dc_caps.specs.Caps.{Caps}
 use Rattle.dc_caps.proofs.Seating.{used_seats}

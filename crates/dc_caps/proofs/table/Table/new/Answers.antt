@@ -1,4 +1,4 @@
-use Rattle.std.proofs.Common.{sym, subst, [], replicate}
+use Rattle.std.proofs.Common.{sym, subst, replicate}
 use Rattle.dc_caps.specs.Seats.{no_cap}
 use Rattle.dc_caps.specs.Tables.{IsWithin}
 use Rattle.dc_caps.proofs.Tabled.{new_within}

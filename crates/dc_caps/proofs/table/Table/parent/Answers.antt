@@ -1,5 +1,4 @@
-use Rattle.std.proofs.Common.{◌≡◌, sym, ◌∙◌, ap, Some, None}
-use Rattle.std.specs.Option.{option_map}
+use Rattle.std.proofs.Common.{◌≡◌, sym, ◌∙◌, ap}
 use Rattle.dc_base.specs.Capabilities.{parent_at}
 use Rattle.dc_caps.specs.Caps.{Caps}
 use Rattle.dc_caps.proofs.Seating.{parent_seats}

@@ -1,5 +1,5 @@
-use Rattle.std.proofs.Common.{◌≡◌, ◌+◌, sym, ◌∙◌, ap, true, length, arith}
-use Rattle.dc_base.specs.Capabilities.{Seat, is_used, after_revoke, slot_number}
+use Rattle.std.proofs.Common.{◌≡◌, ◌+◌, sym, ◌∙◌, ap, length}
+use Rattle.dc_base.specs.Capabilities.{is_used, after_revoke, slot_number}
 use Rattle.dc_mdb.specs.Forests.{descendants}
 use Rattle.dc_caps.specs.Caps.{Caps}
 use Rattle.dc_caps.specs.Seats.{seats_of}

@@ -1,7 +1,6 @@
-use Rattle.std.proofs.Common.{◌≡◌, refl, Err, sym, ◌∙◌, ap, subst, true, false, Some, None, arith, ◌<◌, ◌≤◌, ◌*◌, ◌+◌, length, ℕ}
+use Rattle.std.proofs.Common.{◌≡◌, Err, sym, ◌∙◌, ap, true, false, None, arith}
 use Rattle.dc_base.specs.Capabilities.{with_root}
 use Rattle.dc_mdb.specs.Forests.{has_slot}
-use Rattle.dc_caps.specs.Caps.{Caps}
 use Rattle.dc_caps.specs.Outcomes.{answer_of, root_fault}
 use Rattle.dc_caps.proofs.Changing.{put_now, put_kept, root_answer, free_where, only_used, never_ok}
 use Rattle.dc_caps.proofs.table.Table.seat.Goals.{In-Ok}
