@@ -1,6 +1,6 @@
 -- A table, as its fields change.
 use Rattle.std.proofs.Common.{◌≡◌, ℕ, ◌*◌, ◌<◌, List, Bool, true, false, Option, Some, None, refl, sym, ap, ◌∙◌, subst, length}
-use Rattle.std.specs.Prelude.{slice_set, not, if◌then◌else◌, ◌&&◌, Ok, Err}
+use Rattle.std.specs.Prelude.{slice_set, not, if◌then◌else◌, ◌&&◌, Ok, Err, Result, OnOk}
 use Rattle.dc_base.specs.declared.capabilities.Cap.{Cap}
 use Rattle.dc_base.specs.Capabilities.{Seat, is_used, with_seat, after_delete, after_revoke}
 use Rattle.dc_mdb.specs.Forests.{Node, has_slot, with_node, without_slot, without_descendants}
@@ -85,3 +85,7 @@ only_used Used f = refl
 pub only_absent : (e : ForestFault) → (e ≡ Used → ⊥) → e ≡ Absent
 only_absent Absent f = refl
 only_absent Used f = absurd (f refl)
+
+pub any_ok : {X E : Type 0} (r : Result X E) (P : Type 0) → P → OnOk r P
+any_ok (Ok x) P p = p
+any_ok (Err e) P p = tt

@@ -4,8 +4,8 @@ ghost use Rattle.std.specs.Prelude.{◌≡◌, ◌+◌, ◌*◌, ◌<◌, ◌≤
 ghost use Rattle.std.specs.Option.{option_map};
 ghost use Rattle.dc_base.specs.declared.numbers.SlotNo.{SlotNo as Slot};
 ghost use Rattle.dc_base.specs.declared.capabilities.CapKind.TheVariants.{Line as of_line};
-ghost use Rattle.dc_base.specs.Capabilities.{slot_number, cap_at, is_used, parent_at, with_root, with_child, after_revoke, after_delete, without_line, has_child_within};
-ghost use Rattle.dc_base.specs.Kernel.{copy_call, retype_call, delete_call, revoke_call};
+ghost use Rattle.dc_base.specs.Capabilities.{slot_number, cap_at, is_used, parent_at, with_root, with_child, after_revoke, after_delete, without_line, has_child_within, first_word};
+ghost use Rattle.dc_base.specs.Kernel.{copy_call, retype_call, delete_call, revoke_call, with_mask, memory_cap};
 ghost use Rattle.dc_caps.specs.Caps.{IsCap, IsTable};
 ghost use Rattle.dc_caps.specs.Outcomes.{IsCall, answer_of, root_fault, child_fault};
 
@@ -185,6 +185,7 @@ impl Table {
         requires to { to.0 < 16 }
         requires slot { b < 16 }
         ensures call { IsCall self.old self.new result (λ p. copy_call d.0 to.0 (slot_number d.0 a) (slot_number to.0 b) mask p (cap_at p.caps (slot_number d.0 a))) }
+        ensures ok { OnOk result (IfSome (cap_at self.old.set (slot_number d.0 a)) (λ cap. self.new.set ≡ with_child (slot_number d.0 a) (slot_number to.0 b) (with_mask mask cap) self.old.set)) }
         ensures disps { self.new.disps ≡ self.old.disps }
         ensures err { OnErr result (self.new ≡ self.old) }
     {
@@ -222,6 +223,7 @@ impl Table {
         requires from { a < 16 }
         requires slot { b < 16 }
         ensures call { IsCall self.old self.new result (λ p. retype_call (slot_number d.0 a) (slot_number d.0 b) into_frame offset length p (cap_at p.caps (slot_number d.0 a))) }
+        ensures ok { OnOk result (IfSome (cap_at self.old.set (slot_number d.0 a)) (λ cap. self.new.set ≡ with_child (slot_number d.0 a) (slot_number d.0 b) (memory_cap into_frame (first_word cap.kind + offset) length cap.rights) self.old.set)) }
         ensures disps { self.new.disps ≡ self.old.disps }
         ensures err { OnErr result (self.new ≡ self.old) }
     {
@@ -261,6 +263,7 @@ impl Table {
         requires disp { d.0 < self.old.disps }
         requires slot { a < 16 }
         ensures call { IsCall self.old self.new result (λ p. delete_call (slot_number d.0 a) p (cap_at p.caps (slot_number d.0 a))) }
+        ensures ok { OnOk result (self.new.set ≡ after_delete (slot_number d.0 a) self.old.set) }
         ensures disps { self.new.disps ≡ self.old.disps }
         ensures err { OnErr result (self.new ≡ self.old) }
     {
@@ -278,6 +281,7 @@ impl Table {
         requires slot { a < 16 }
         ensures call { IsCall self.old self.new result (λ p. revoke_call (slot_number d.0 a) p (cap_at p.caps (slot_number d.0 a))) }
         ensures count { IfOk result (λ n. n + length self.new.set ≡ length self.old.set) }
+        ensures ok { OnOk result (self.new.set ≡ after_revoke (slot_number d.0 a) self.old.set) }
         ensures disps { self.new.disps ≡ self.old.disps }
         ensures err { OnErr result (self.new ≡ self.old) }
     {
