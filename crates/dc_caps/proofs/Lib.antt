@@ -1,0 +1,5 @@
+pub mod Seating
+pub mod Tabled
+pub mod Changing
+pub mod Called
+pub mod Holding

@@ -1,0 +1,4 @@
+pub mod Caps
+pub mod Outcomes
+pub mod Seats
+pub mod Tables

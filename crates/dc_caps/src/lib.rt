@@ -1,0 +1,14 @@
+//! The capabilities of a block.
+#![tactic(auto)]
+
+mod faults;
+mod held;
+mod kinds;
+#[cfg(test)]
+mod plain;
+mod table;
+#[cfg(test)]
+mod tests;
+
+pub use faults::CapFault;
+pub use table::Table;

@@ -1,0 +1,12 @@
+pub mod Ascending
+pub mod Nodes
+pub mod Rooted
+pub mod Ranks
+pub mod Reaching
+pub mod Leaving
+pub mod Steps
+pub mod Linked
+pub mod Descending
+pub mod Clearing
+pub mod Slots
+pub mod Forested
