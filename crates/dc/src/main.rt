@@ -3,9 +3,10 @@
 
 use dc_io::{FileShelf, Open, OutSink};
 use dc_top::command;
+use std::alloc::Global;
+use std::env;
 use std::io::{self, ErrorKind};
 use std::process::ExitCode;
-use std::{alloc::Global, env};
 
 // The status for want of memory.
 const NO_MEMORY: u8 = 7;
@@ -27,11 +28,5 @@ fn main(rt: HostRuntime) -> ExitCode {
     };
     let mut shelf = FileShelf::new(rt);
     let mut sink = OutSink::new(rt.stdout());
-    ExitCode::from(command(
-        alloc,
-        words.as_slice(),
-        &mut shelf,
-        &mut sink,
-        &Open,
-    ))
+    ExitCode::from(command(alloc, words.as_slice(), &mut shelf, &mut sink, &Open))
 }

@@ -1,15 +1,14 @@
 -- What was written, with its status, is what a call answers.
-use Rattle.std.proofs.Common.{◌≡◌, ◌≢◌, ◌⊎◌, ◌<◌, ◌≤◌, ℕ, List, [], refl, sym, ap, ◌∙◌, subst, arith, inl, inr, Option, Some, None, Result, Ok, Err, replicate}
+use Rattle.std.proofs.Common.{◌≡◌, ◌⊎◌, ◌<◌, ◌≤◌, ℕ, List, [], refl, sym, ap, ◌∙◌, subst, arith, inl, inr, Option, Some, None, Result, Ok, Err, replicate}
 use Rattle.std.specs.Prelude.{OnErr, IfSome}
 use Rattle.dc_base.specs.declared.images.Image.{Image}
 use Rattle.dc_base.specs.Results.{◌>>=◌}
-use Rattle.dc_base.specs.States.{State, core_start}
+use Rattle.dc_base.specs.States.{State}
 use Rattle.dc_base.specs.TextWords.{ended}
 use Rattle.dc_base.specs.FaultText.{read_fault_line}
 use Rattle.dc_base.specs.PlayText.{played_text, play_text}
 use Rattle.dc_io.specs.declared.sinks.Failed.{Failed}
 use Rattle.dc_io.specs.Counts.{Rose}
-use Rattle.dc_io.specs.Told.{Adds, AddsPrefix}
 use Rattle.dc_top.specs.declared.halts.Halt.{Halt}
 use Rattle.dc_top.specs.declared.halts.Halt.TheVariants as halt
 use Rattle.dc_top.specs.declared.refusals.Refusal.{Refusal}
@@ -18,7 +17,7 @@ use Rattle.dc_top.specs.Calls.{Call, FaultOf, IsPlayStatus, PlayAnswers, verdict
 use Rattle.dc_top.specs.Halts.{Files, Halts, HaltTold, IsReady, verdict_of, name_of}
 use Rattle.dc_top.specs.Playing.{step_action, steps_run}
 use Rattle.dc_top.specs.Refusals.{Verdict, line_of, status_of}
-use Rattle.dc_top.specs.Verdict.{done, either_verdict, inputs_read, schedule_read, play_verdict}
+use Rattle.dc_top.specs.Verdict.{done, either_verdict, schedule_read, play_verdict}
 use Rattle.dc_top.specs.Written.{Writes, WritesAs, whole, part, status_for}
 use Rattle.dc_top.proofs.ImageTexts.{played_text-image}
 

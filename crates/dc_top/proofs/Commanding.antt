@@ -1,6 +1,6 @@
 -- The words of a command line, by their number and their first.
 use Rattle.std.proofs.Common.{◌≡◌, ◌∙◌, ℕ, List, [], ◌∷◌, map, Bool, true, false, length, refl, sym, ap, subst, Option, Some, None}
-use Rattle.std.specs.Prelude.{IfSome, MatchOption, if◌then◌else◌, bytes_eq, codes}
+use Rattle.std.specs.Prelude.{IfSome, MatchOption, if◌then◌else◌}
 use Rattle.std.proofs.lemmas.List.{length-map}
 use Rattle.dc_base.specs.TextWords.{is_word}
 use Rattle.dc_top.specs.Calls.{Call, PlayAnswers, TellsRun, Wrote}

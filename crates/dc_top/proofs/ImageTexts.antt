@@ -1,8 +1,5 @@
 -- The run of steps from the start of an image is the run of its schedule.
-use Rattle.std.proofs.Common.{◌≡◌, ℕ, [], replicate, refl, ap, ◌∙◌, subst, Option, Some, true, false}
-use Rattle.std.specs.Prelude.{MatchOption}
-use Rattle.dc_top.specs.FirstImages.{is_first_image}
-use Rattle.dc_top.specs.First.{First, state_of}
+use Rattle.std.proofs.Common.{◌≡◌, ℕ, [], replicate, refl, ap, ◌∙◌}
 use Rattle.dc_base.specs.declared.images.Image.{Image}
 use Rattle.dc_base.specs.States.{State, core_start}
 use Rattle.dc_base.specs.CoreRuns.{core_run_from, core_run}

@@ -1,13 +1,10 @@
 -- Why three files are not played, from why one of them does not serve; and what is ready where all serve.
-use Rattle.std.proofs.Common.{◌≡◌, ◌∙◌, ◌<◌, ◌≤◌, ℕ, List, [], length, refl, sym, ap, subst, Option, Some, None, Result, Ok, Err, replicate, arith}
+use Rattle.std.proofs.Common.{◌≡◌, ◌∙◌, ◌<◌, ◌≤◌, ℕ, List, length, sym, ap, subst, Some, None, Result, Ok, Err, arith}
 use Rattle.std.specs.Prelude.{IfSome, IsOk}
 use Rattle.dc_base.specs.declared.images.Image.{Image}
 use Rattle.dc_base.specs.declared.faults.ImageFault.TheVariants as told
-use Rattle.dc_base.specs.Results.{◌>>=◌}
 use Rattle.dc_base.specs.States.{State}
 use Rattle.dc_base.specs.TextWords.{longest_file}
-use Rattle.dc_base.specs.PlayText.{play_text}
-use Rattle.dc_io.specs.Counts.{Rose}
 use Rattle.dc_top.specs.declared.halts.Halt.{Halt}
 use Rattle.dc_top.specs.declared.halts.Halt.TheVariants as halt
 use Rattle.dc_top.specs.declared.halts.Which.{Which}
@@ -16,9 +13,8 @@ use Rattle.dc_top.specs.declared.refusals.Refusal.{Refusal}
 use Rattle.dc_top.specs.declared.refusals.Refusal.TheVariants as why
 use Rattle.dc_top.specs.Calls.{FaultOf, at_image, at_script, at_schedule}
 use Rattle.dc_top.specs.Halts.{Files, Halts, HaltsAt, IsReady, IsStartOf, MissesAt, RefusedBy, name_of, verdict_of}
-use Rattle.dc_top.specs.Playing.{step_action}
 use Rattle.dc_top.specs.Refusals.{Verdict}
-use Rattle.dc_top.specs.Verdict.{done, either_verdict, image_read, inputs_read, play_verdict, schedule_read, script_read}
+use Rattle.dc_top.specs.Verdict.{image_read, inputs_read, play_verdict, schedule_read, script_read}
 use Rattle.dc_top.proofs.Readings.{image_too_long, script_too_long, schedule_too_long}
 use Rattle.dc_top.proofs.Rises.{rose_since}
 

@@ -1,19 +1,15 @@
 -- What the bytes of a file are read as, by the tests that the code makes.
-use Rattle.std.proofs.Common.{◌≡◌, ◌∙◌, ◌<◌, ◌≤◌, ℕ, List, [], Bool, true, false, length, refl, sym, ap, subst, arith, Option, Some, None, Result, Ok, Err, nat_lt, nat_le, ◌&&◌, ◌^◌, if◌then◌else◌}
-use Rattle.std.specs.Prelude.{IfSome, codes}
+use Rattle.std.proofs.Common.{◌≡◌, ◌∙◌, ◌<◌, ◌≤◌, ℕ, List, [], Bool, true, false, length, ap, arith, Some, None, Result, Ok, Err, nat_lt, nat_le, ◌&&◌, ◌^◌, if◌then◌else◌}
 use Rattle.std.proofs.lemmas.Bool.{le-ltb, lt-ltb, leb-true, and_parts}
 use Rattle.std.proofs.lemmas.Option.{cond_some}
 use Rattle.dc_base.specs.declared.images.Image.{Image}
-use Rattle.dc_base.specs.declared.faults.ImageFault.{ImageFault}
 use Rattle.dc_base.specs.declared.faults.ImageFault.TheVariants as told
-use Rattle.dc_base.specs.declared.faults.TextFault.TheVariants as refused
 use Rattle.dc_base.specs.Results.{◌>>=◌, fault_as}
 use Rattle.dc_base.specs.States.{State, core_start}
-use Rattle.dc_base.specs.TextWords.{longest_file, ended}
+use Rattle.dc_base.specs.TextWords.{longest_file}
 use Rattle.dc_base.specs.Valid.{IsValid}
-use Rattle.dc_base.specs.FaultText.{ImageRefusal, too_long, text_fault_line}
+use Rattle.dc_base.specs.FaultText.{ImageRefusal}
 use Rattle.dc_image.specs.ImageOf.{image_of}
-use Rattle.dc_image.specs.Faults.{refusal_of, Refuses}
 use Rattle.dc_top.specs.declared.refusals.Refusal.TheVariants as why
 use Rattle.dc_top.specs.declared.halts.Halt.{Halt}
 use Rattle.dc_top.specs.declared.halts.Halt.TheVariants as halt
@@ -22,7 +18,7 @@ use Rattle.dc_top.specs.FirstLines.{has_no_lines, steps_in, lines_in, are_step_l
 use Rattle.dc_top.specs.Halts.{IsStartOf, RefusedBy, verdict_of}
 use Rattle.dc_top.specs.Refusals.{Verdict, image_not_built, script_not_built}
 use Rattle.dc_top.specs.Refusals as refusals
-use Rattle.dc_top.specs.Verdict.{image_refused, if_first, image_read, script_read, schedule_read, steps_or_refused}
+use Rattle.dc_top.specs.Verdict.{image_refused, if_first, image_read, script_read, schedule_read}
 
 short : (n : ℕ) → n ≤ longest_file → nat_lt longest_file n ≡ false
 short n h = le-ltb longest_file n h

@@ -1,5 +1,5 @@
 -- What `play` answers to the bytes of three files, where nothing fails.
-use Rattle.std.specs.Prelude.{ℕ, List, [], Bool, if◌then◌else◌, Option, Some, None, length, replicate, Result, Ok, Err, codes, nat_lt}
+use Rattle.std.specs.Prelude.{ℕ, List, [], if◌then◌else◌, Option, Some, None, length, replicate, Result, Ok, Err, codes, nat_lt}
 use Rattle.dc_base.specs.declared.images.Image.{Image}
 use Rattle.dc_base.specs.declared.faults.TextFault.TheVariants as refused
 use Rattle.dc_base.specs.Results.{◌>>=◌, fault_as}

@@ -166,7 +166,7 @@ fn each_put_that_fails_leaves_the_lines_before_it(rt: HostRuntime) -> Result<(),
     let alloc = rt.alloc();
     let image = format!(in alloc; "{BARE}{HELLO}")?;
     let mut left = 0;
-    for failing in 1..=10 {
+    for failing in 1..11 {
         let mut shelf = shelf(alloc, image.as_str(), "", THREE_STEPS, 9)?;
         let mut sink = sink(alloc, failing)?;
         assert_eq!(&rt;

@@ -1,4 +1,4 @@
-use Rattle.std.proofs.Common.{◌≡◌, ℕ, subst, sym}
+use Rattle.std.proofs.Common.{ℕ, subst, sym}
 use Rattle.std.specs.Prelude.{IfSome}
 use Rattle.dc_top.specs.Calls.{Call, PlayAnswers}
 use Rattle.dc_top.specs.First.{state_of}

@@ -1,4 +1,4 @@
-use Rattle.std.proofs.Common.{◌≡◌, ◌∙◌, sym, Bool, true}
+use Rattle.std.proofs.Common.{◌≡◌, ◌∙◌, sym, true}
 use Rattle.dc_base.specs.TextWords.{is_word}
 use Rattle.dc_top.proofs.Commanding.{play_answered, play_told}
 use Rattle.dc_top.proofs.commands.command_of_three.Goals as goal

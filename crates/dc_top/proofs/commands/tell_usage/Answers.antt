@@ -1,4 +1,4 @@
-use Rattle.std.proofs.Common.{◌≡◌, ℕ, List, subst, sym}
+use Rattle.std.proofs.Common.{ℕ, List, subst, sym}
 use Rattle.dc_base.specs.FaultText.{usage_line}
 use Rattle.dc_base.specs.TextWords.{ended}
 use Rattle.dc_top.specs.Refusals.{usage}
