@@ -1,0 +1,7 @@
+//! Scripts and schedules: their texts are read.
+#![tactic(auto)]
+
+mod commands;
+mod lines;
+mod values;
+mod words;
