@@ -14,6 +14,11 @@ pub record IsMiscount (n : ℕ) (texts : List (List ℕ)) (kind : TextKind) : Ty
   pub count : length texts ≢ n
   pub wrong : kind ≡ WrongCount
 
+-- there is no word, or the count is wrong
+abbrev pub AreNone : List (List ℕ) → Result (Unit {0}) TextKind → Type 0
+AreNone texts (Ok u) = texts ≡ []
+AreNone texts (Err kind) = IsMiscount 0 texts kind
+
 -- the word is the only one, or the count is wrong
 abbrev pub IsOne : List (List ℕ) → Result (Bor (List ℕ)) TextKind → Type 0
 IsOne texts (Ok u) = texts ≡ u.now ∷ []

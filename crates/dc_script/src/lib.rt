@@ -3,5 +3,7 @@
 
 mod commands;
 mod lines;
+mod schedules;
+mod scripts;
 mod values;
 mod words;

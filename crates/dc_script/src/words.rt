@@ -15,9 +15,8 @@ pub(crate) struct Words<'a> {
 
 impl<'a> Words<'a> {
     ghost use Rattle.std.specs.Prelude.{◌≡◌, [], ◌∷◌, slice_range, MatchOption};
-    ghost use Rattle.dc_base.specs.ScriptText.{no_words};
     ghost use Rattle.dc_text.specs.Places.{texts_at};
-    ghost use Rattle.dc_script.specs.Words.{texts_of, IsOne, AreTwo, AreThree};
+    ghost use Rattle.dc_script.specs.Words.{texts_of, AreNone, IsOne, AreTwo, AreThree};
 
     /// The words at these places.
     pub(crate) fn at(line: &'a [u8], places: &'a [(u32, u32)]) -> Words<'a>
@@ -47,7 +46,7 @@ impl<'a> Words<'a> {
 
     /// No word at all.
     pub(crate) fn none(&self) -> Result<(), TextKind>
-        ensures { result ≡ no_words tt (texts_of self.now) }
+        ensures { AreNone (texts_of self.now) result }
     {
         match self.places {
             [] => Ok(()),
