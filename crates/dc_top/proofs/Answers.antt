@@ -17,7 +17,9 @@ use Rattle.dc_top.specs.Calls.{Call, FaultOf, IsPlayStatus, PlayAnswers, verdict
 use Rattle.dc_top.specs.Halts.{Files, Halts, HaltTold, IsReady, verdict_of, name_of}
 use Rattle.dc_top.specs.Playing.{step_action, steps_run}
 use Rattle.dc_top.specs.Refusals.{Verdict, line_of, status_of}
-use Rattle.dc_top.specs.Verdict.{done, either_verdict, schedule_read, play_verdict}
+use Rattle.dc_base.specs.declared.actions.Actor.{Actor}
+use Rattle.dc_base.specs.declared.actions.Action.{Action}
+use Rattle.dc_top.specs.Verdict.{Inputs, bounds_of, done, either_verdict, schedule_read, play_verdict}
 use Rattle.dc_top.specs.Written.{Writes, WritesAs, whole, part, status_for}
 use Rattle.dc_top.proofs.ImageTexts.{played_text-image}
 
@@ -47,17 +49,16 @@ module _ (image script schedule : List ℕ) (files : List ℕ → List ℕ) (cal
 pub ready_verdict : (image script schedule : List ℕ) (s : State) (n : ℕ) → IsReady image script schedule s n → play_verdict image script schedule ≡ done (played_text (steps_run s n))
 unfolding play_verdict
 ready_verdict image script schedule s n r =
-    ap (λ (x : Result Image Verdict). either_verdict (x >>= (λ i. schedule_read schedule >>= (λ k. Ok (done (play_text i [] (replicate k step_action))))))) r.inputs
-    ∙ ap (λ (x : Result ℕ Verdict). either_verdict (x >>= (λ k. Ok (done (play_text r.machine [] (replicate k step_action)))))) r.schedule_read
-    ∙ ap done (sym (played_text-image r.machine n s r.start))
+    ap (λ (x : Result Inputs Verdict). either_verdict (x >>= (λ m. schedule_read (bounds_of m.image) schedule >>= (λ a. Ok (done (play_text m.image m.script a)))))) r.inputs
+    ∙ ap (λ (x : Result (List (Actor × Action)) Verdict). either_verdict (x >>= (λ a. Ok (done (play_text r.machine [] a))))) r.actions ∙ ap done (sym (played_text-image r.machine n s r.start))
 
 -- a refusal has a status from 2 to 4
 status_of_file : (r : Refusal) → (1 < status_of r) × (status_of r ≤ 4)
 status_of_file (why.Image f) = (omega arith, omega arith)
 status_of_file why.ImageNotBuilt = (omega arith, omega arith)
-status_of_file why.ScriptTooLong = (omega arith, omega arith)
+status_of_file (why.Script f) = (omega arith, omega arith)
 status_of_file why.ScriptNotBuilt = (omega arith, omega arith)
-status_of_file why.ScheduleTooLong = (omega arith, omega arith)
+status_of_file (why.Schedule f) = (omega arith, omega arith)
 status_of_file why.ScheduleNotBuilt = (omega arith, omega arith)
 
 -- the status of a text, whole or not

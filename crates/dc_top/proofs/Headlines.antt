@@ -75,7 +75,7 @@ module _ (reported : Reported) (lines : EachEntry has_line) (ranges : EachEntry 
         Wrote shelf before after (λ files text. TellsRun (files image) (files script) text)
     wrote_by (Ok x) ready w is_0 = λ files taken told held.
         let there = ready_of files told ready in
-        (played_text (steps_run s n), w.added taken held, (there.machine, there.inputs, steps_told there.machine s n there.valid there.start))
+        (played_text (steps_run s n), w.added taken held, (record { image = there.machine; script = [] }, there.inputs, steps_told there.machine s n there.valid there.start))
     wrote_by (Err f) ready w is_0 = absurd (omega (arith, is_0))
 
     pub played_tells : (r : Result (Unit {0}) Failed) (result : ℕ) → IfSome shelf (λ f. IsReady (f image) (f script) (f schedule) s n) → Writes before after (played_text (steps_run s n)) r →

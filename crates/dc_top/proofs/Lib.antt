@@ -12,4 +12,3 @@ mod Rises
 mod ReportTexts
 mod ImageTexts
 mod PlayTexts
-mod TextLines

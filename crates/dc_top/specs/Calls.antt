@@ -1,5 +1,5 @@
 -- What the top calls promise.
-use Rattle.std.specs.Prelude.{◌≡◌, ◌⊎◌, ◌≤◌, ◌<◌, ℕ, List, [], ◌++◌, Option, Some, Ok, IsOk}
+use Rattle.std.specs.Prelude.{◌≡◌, ◌⊎◌, ◌≤◌, ◌<◌, ℕ, List, ◌++◌, Option, Some, Ok, IsOk}
 use Rattle.dc_base.specs.declared.images.Image.{Image}
 use Rattle.dc_base.specs.declared.commands.ScriptLine.{ScriptLine}
 use Rattle.dc_base.specs.declared.entries.Entry.{Entry}
@@ -12,7 +12,7 @@ use Rattle.dc_base.specs.FaultText.{read_fault_line}
 use Rattle.dc_base.specs.Headline.{IsReportedRun}
 use Rattle.dc_io.specs.Counts.{Rose}
 use Rattle.dc_io.specs.Told.{Adds, AddsPrefix}
-use Rattle.dc_top.specs.Verdict.{play_verdict, inputs_read, image_read}
+use Rattle.dc_top.specs.Verdict.{Inputs, play_verdict, inputs_read, image_read}
 
 -- the counts of faults before and after a call, and what the sink told
 pub record Call : Type 0 where
@@ -58,7 +58,7 @@ pub record IsReportedText (image : Image) (script : List ScriptLine) (text : Lis
 
 -- the text tells a run of the machine that these two files describe
 abbrev pub TellsRun : (image script text : List ℕ) → Type 0
-TellsRun image script text = (i : Image) × (inputs_read image script ≡ Ok i) × IsReportedText i [] text
+TellsRun image script text = (m : Inputs) × (inputs_read image script ≡ Ok m) × IsReportedText m.image m.script text
 
 -- where the files are told, and the bytes taken so far, this holds of the files and of what the call has written
 abbrev pub Wrote : Option (List ℕ → List ℕ) → Option (List ℕ) → Option (List ℕ) → ((List ℕ → List ℕ) → List ℕ → Type 0) → Type 0

@@ -2,8 +2,8 @@ pub mod Calls
 pub mod First
 pub mod FirstEnds
 pub mod FirstImages
-pub mod FirstLines
 pub mod FirstReport
+pub mod FirstSchedules
 pub mod FirstSteps
 pub mod Halts
 pub mod Playing

@@ -1,6 +1,5 @@
 -- What is told where nothing is played.
 use Rattle.std.specs.Prelude.{ℕ, List, [], ◌∷◌, Option, Some, None, codes}
-use Rattle.dc_base.specs.declared.faults.TextFault.TheVariants as refused
 use Rattle.dc_base.specs.TextWords.{ended}
 use Rattle.dc_base.specs.FaultText.{ImageRefusal, text_fault_line, image_fault_line, usage_line, play_form}
 use Rattle.dc_image.specs.Faults.{refusal_of}
@@ -36,16 +35,16 @@ image_line (Some r) = image_fault_line r
 abbrev pub line_of : Refusal → List ℕ
 line_of (why.Image f) = image_line (refusal_of f)
 line_of why.ImageNotBuilt = image_not_built
-line_of why.ScriptTooLong = text_fault_line (codes "script") refused.TooLong
+line_of (why.Script f) = text_fault_line (codes "script") f
 line_of why.ScriptNotBuilt = script_not_built
-line_of why.ScheduleTooLong = text_fault_line (codes "schedule") refused.TooLong
+line_of (why.Schedule f) = text_fault_line (codes "schedule") f
 line_of why.ScheduleNotBuilt = schedule_not_built
 
 -- 2, 3 and 4 for the image, the script and the schedule
 abbrev pub status_of : Refusal → ℕ
 status_of (why.Image f) = 2
 status_of why.ImageNotBuilt = 2
-status_of why.ScriptTooLong = 3
+status_of (why.Script f) = 3
 status_of why.ScriptNotBuilt = 3
-status_of why.ScheduleTooLong = 4
+status_of (why.Schedule f) = 4
 status_of why.ScheduleNotBuilt = 4

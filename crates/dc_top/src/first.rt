@@ -2,7 +2,7 @@
 
 mod consoles;
 pub(crate) mod images;
-pub(crate) mod lines;
 pub(crate) mod machine;
 pub(crate) mod playing;
 mod reports;
+pub(crate) mod schedules;

@@ -1,22 +1,25 @@
 //! What the bytes of the three files are.
 
-ghost use Rattle.std.specs.Prelude.{◌≡◌, ◌≤◌, ◌^◌, ◌<◌, IfOk, IfErr, OnOk, Ok, length};
-ghost use Rattle.dc_base.specs.TextWords.{longest_file};
+ghost use Rattle.std.specs.Prelude.{◌≡◌, ◌^◌, ◌<◌, [], IfOk, IfErr, OnOk, Ok, length, replicate};
 ghost use Rattle.dc_base.specs.Results.{fault_as};
 ghost use Rattle.dc_base.specs.Valid.{IsValid};
+ghost use Rattle.dc_base.specs.ScriptText.{schedule_of, script_of};
 ghost use Rattle.dc_image.specs.ImageOf.{image_of};
 ghost use Rattle.dc_top.specs.First.{state_of};
 ghost use Rattle.dc_top.specs.Halts.{IsStartOf, RefusedBy};
-ghost use Rattle.dc_top.specs.Verdict.{image_read, image_refused, script_read, schedule_read};
+ghost use Rattle.dc_top.specs.Playing.{step_action};
+ghost use Rattle.dc_top.specs.Verdict.{bounds_of, image_read, image_refused, schedule_read, schedule_refused, script_read, script_refused};
 
 use crate::first::images::first_machine;
-use crate::first::lines::{has_no_lines, steps_in};
 use crate::first::machine::FirstMachine;
+use crate::first::schedules::are_steps;
 use crate::halts::Halt;
 use crate::refusals::Refusal;
-use dc_base::faults::ImageFault;
+use dc_base::commands::Bounds;
+use dc_base::faults::{ImageFault, TextFault};
 use dc_base::images::Image;
 use dc_image::read_image;
+use dc_script::{Schedule, Script, read_schedule, read_script};
 use std::alloc::Global;
 
 /// Reads an image.
@@ -32,47 +35,92 @@ fn image_in(alloc: Global, bytes: &[u8]) -> Result<Image, Halt>
     }
 }
 
-/// The machine of an image, at its start.
+/// How many cores, blocks and lines the scripts and schedules of an image may name.
+fn bounds_of(image: &Image) -> Bounds
+    requires { IsValid image.now }
+    ensures { result ≡ bounds_of image.now }
+{
+    Bounds {
+        cores: image.cores.len() as u32,
+        blocks: image.blocks.len() as u32,
+        lines: image.lines,
+    }
+}
+
+/// The machine of an image at its start, and the bounds of its scripts and schedules.
 #[tactic(auto, using(crate::proofs::Readings::image_started, crate::proofs::Readings::image_not_first, crate::proofs::Readings::image_refused_first))]
-pub fn machine_of(alloc: Global, bytes: &[u8]) -> Result<FirstMachine, Halt>
-    ensures machine { IfOk result (λ m. IsStartOf bytes.now (state_of m)) }
+pub fn machine_of(alloc: Global, bytes: &[u8]) -> Result<(FirstMachine, Bounds), Halt>
+    ensures machine { IfOk result (λ r. IsStartOf bytes.now (state_of r.0) r.1) }
     ensures refused { IfErr result (RefusedBy (image_read bytes.now)) }
 {
     let image = match image_in(alloc, bytes) {
         Ok(image) => image,
         Err(halt) => return Err(halt),
     };
+    let bounds = bounds_of(&image);
     match first_machine(alloc, &image) {
-        Ok(Some(machine)) => Ok(machine),
+        Ok(Some(machine)) => Ok((machine, bounds)),
         Ok(None) => Err(Halt::Refused(Refusal::ImageNotBuilt)),
         Err(_) => Err(Halt::Memory),
     }
 }
 
-/// Whether a script has no line that counts.
-#[tactic(auto, using(crate::proofs::Readings::script_accepted, crate::proofs::Readings::script_refused))]
-pub fn accept_script(bytes: &[u8]) -> Result<(), Halt>
-    requires { length bytes.now ≤ longest_file }
-    ensures accepted { OnOk result (script_read bytes.now ≡ Ok tt) }
-    ensures refused { IfErr result (RefusedBy (script_read bytes.now)) }
+/// Reads a script.
+fn script_in(alloc: Global, bytes: &[u8], bounds: Bounds) -> Result<Script, Halt>
+    ensures script { IfOk result (λ script. script_of bounds bytes.now ≡ Ok script) }
+    ensures refused { IfErr result (RefusedBy (fault_as script_refused (script_of bounds bytes.now))) }
 {
-    if has_no_lines(bytes) {
+    match read_script(alloc, bytes, bounds) {
+        Ok(script) => Ok(script),
+        Err(TextFault::Memory) => Err(Halt::Memory),
+        Err(fault) => Err(Halt::Refused(Refusal::Script(fault))),
+    }
+}
+
+/// Whether a script has no line.
+#[tactic(auto, using(crate::proofs::Readings::script_accepted, crate::proofs::Readings::script_not_empty, crate::proofs::Readings::script_refused_first))]
+pub fn accept_script(alloc: Global, bytes: &[u8], bounds: Bounds) -> Result<(), Halt>
+    ensures accepted { OnOk result (script_read bounds bytes.now ≡ Ok []) }
+    ensures refused { IfErr result (RefusedBy (script_read bounds bytes.now)) }
+{
+    let script = match script_in(alloc, bytes, bounds) {
+        Ok(script) => script,
+        Err(halt) => return Err(halt),
+    };
+    if script.is_empty() {
         Ok(())
     } else {
         Err(Halt::Refused(Refusal::ScriptNotBuilt))
     }
 }
 
-/// How many steps a schedule asks for.
-#[tactic(auto, using(crate::proofs::Readings::steps_read, crate::proofs::Readings::steps_refused, crate::proofs::Readings::steps_few))]
-pub fn steps_of(bytes: &[u8]) -> Result<usize, Halt>
-    requires { length bytes.now ≤ longest_file }
-    ensures steps { IfOk result (λ steps. schedule_read bytes.now ≡ Ok steps) }
-    ensures few { IfOk result (λ steps. steps < 2 ^ 62) }
-    ensures refused { IfErr result (RefusedBy (schedule_read bytes.now)) }
+/// Reads a schedule.
+fn schedule_in(alloc: Global, bytes: &[u8], bounds: Bounds) -> Result<Schedule, Halt>
+    ensures schedule { IfOk result (λ schedule. schedule_of bounds bytes.now ≡ Ok schedule) }
+    ensures few { IfOk result (λ schedule. length schedule < 2 ^ 62) }
+    ensures refused { IfErr result (RefusedBy (fault_as schedule_refused (schedule_of bounds bytes.now))) }
 {
-    match steps_in(bytes) {
-        Some(steps) => Ok(steps),
-        None => Err(Halt::Refused(Refusal::ScheduleNotBuilt)),
+    match read_schedule(alloc, bytes, bounds) {
+        Ok(schedule) => Ok(schedule),
+        Err(TextFault::Memory) => Err(Halt::Memory),
+        Err(fault) => Err(Halt::Refused(Refusal::Schedule(fault))),
+    }
+}
+
+/// How many steps a schedule asks for.
+#[tactic(auto, using(crate::proofs::Readings::steps_read, crate::proofs::Readings::not_steps, crate::proofs::Readings::schedule_refused_first))]
+pub fn steps_of(alloc: Global, bytes: &[u8], bounds: Bounds) -> Result<usize, Halt>
+    ensures steps { IfOk result (λ steps. schedule_read bounds bytes.now ≡ Ok (replicate steps step_action)) }
+    ensures few { IfOk result (λ steps. steps < 2 ^ 62) }
+    ensures refused { IfErr result (RefusedBy (schedule_read bounds bytes.now)) }
+{
+    let schedule = match schedule_in(alloc, bytes, bounds) {
+        Ok(schedule) => schedule,
+        Err(halt) => return Err(halt),
+    };
+    if are_steps(schedule.as_slice()) {
+        Ok(schedule.len())
+    } else {
+        Err(Halt::Refused(Refusal::ScheduleNotBuilt))
     }
 }

@@ -1,9 +1,10 @@
 //! The files of a play, loaded and read.
 
-ghost use Rattle.std.specs.Prelude.{◌≡◌, ◌≤◌, ◌^◌, ◌<◌, IfOk, IfErr, IfSome, OnOk, Ok, length};
+ghost use Rattle.std.specs.Prelude.{◌≡◌, ◌≤◌, ◌^◌, ◌<◌, [], IfOk, IfErr, IfSome, OnOk, Ok, length, replicate};
 ghost use Rattle.dc_base.specs.TextWords.{longest_file};
 ghost use Rattle.dc_top.specs.First.{state_of};
 ghost use Rattle.dc_top.specs.Halts.{Halts, HaltsAt, IsReady, IsStartOf, MissesAt};
+ghost use Rattle.dc_top.specs.Playing.{step_action};
 ghost use Rattle.dc_top.specs.Verdict.{image_read, script_read, schedule_read};
 ghost use Rattle.dc_top.specs.declared.halts.Which.TheVariants as which;
 
@@ -11,7 +12,8 @@ use crate::first::machine::FirstMachine;
 use crate::halts::{Halt, Which};
 use crate::inputs::{accept_script, machine_of, steps_of};
 use crate::refusals::Refusal;
-use dc_base::faults::ImageFault;
+use dc_base::commands::Bounds;
+use dc_base::faults::{ImageFault, TextFault};
 use dc_io::{Load, Shelf};
 use std::alloc::Global;
 
@@ -38,10 +40,14 @@ fn load<H: Shelf>(
     }
 }
 
-/// The machine of an image file, at its start.
+/// The machine of an image file at its start, and the bounds of its scripts and schedules.
 #[tactic(auto, using(crate::proofs::Loading::image_misses, crate::proofs::Loading::image_refuses, crate::proofs::Loading::image_serves))]
-fn load_machine<H: Shelf>(alloc: Global, name: &str, shelf: &mut H) -> Result<FirstMachine, Halt>
-    ensures machine { IfOk result (λ m. IfSome (H.told shelf.old) (λ files. IsStartOf (files name.now) (state_of m))) }
+fn load_machine<H: Shelf>(
+    alloc: Global,
+    name: &str,
+    shelf: &mut H,
+) -> Result<(FirstMachine, Bounds), Halt>
+    ensures machine { IfOk result (λ r. IfSome (H.told shelf.old) (λ files. IsStartOf (files name.now) (state_of r.0) r.1)) }
     ensures halts { IfErr result (HaltsAt which.Image (H.told shelf.old) image_read name.now (H.faults shelf.old) (H.faults shelf.new)) }
     ensures kept { H.told shelf.new ≡ H.told shelf.old }
     ensures grows { H.faults shelf.old ≤ H.faults shelf.new }
@@ -53,43 +59,49 @@ fn load_machine<H: Shelf>(alloc: Global, name: &str, shelf: &mut H) -> Result<Fi
     }
 }
 
-/// Whether a script file has no line that counts.
+/// Whether a script file has no line.
 #[tactic(auto, using(crate::proofs::Loading::script_misses, crate::proofs::Loading::script_refuses, crate::proofs::Loading::script_serves))]
-fn load_script<H: Shelf>(alloc: Global, name: &str, shelf: &mut H) -> Result<(), Halt>
-    ensures script { OnOk result (IfSome (H.told shelf.old) (λ files. script_read (files name.now) ≡ Ok tt)) }
-    ensures halts { IfErr result (HaltsAt which.Script (H.told shelf.old) script_read name.now (H.faults shelf.old) (H.faults shelf.new)) }
+fn load_script<H: Shelf>(
+    alloc: Global,
+    name: &str,
+    bounds: Bounds,
+    shelf: &mut H,
+) -> Result<(), Halt>
+    ensures script { OnOk result (IfSome (H.told shelf.old) (λ files. script_read bounds (files name.now) ≡ Ok [])) }
+    ensures halts { IfErr result (HaltsAt which.Script (H.told shelf.old) (script_read bounds) name.now (H.faults shelf.old) (H.faults shelf.new)) }
     ensures kept { H.told shelf.new ≡ H.told shelf.old }
     ensures grows { H.faults shelf.old ≤ H.faults shelf.new }
 {
-    match load(alloc, name, shelf, Which::Script, Refusal::ScriptTooLong) {
-        Ok(bytes) => accept_script(bytes.as_slice()),
+    let too_long = Refusal::Script(TextFault::TooLong);
+    match load(alloc, name, shelf, Which::Script, too_long) {
+        Ok(bytes) => accept_script(alloc, bytes.as_slice(), bounds),
         Err(halt) => Err(halt),
     }
 }
 
 /// How many steps a schedule file asks for.
 #[tactic(auto, using(crate::proofs::Loading::schedule_misses, crate::proofs::Loading::schedule_refuses, crate::proofs::Loading::schedule_serves))]
-fn load_schedule<H: Shelf>(alloc: Global, name: &str, shelf: &mut H) -> Result<usize, Halt>
-    ensures steps { IfOk result (λ steps. IfSome (H.told shelf.old) (λ files. schedule_read (files name.now) ≡ Ok steps)) }
+fn load_schedule<H: Shelf>(
+    alloc: Global,
+    name: &str,
+    bounds: Bounds,
+    shelf: &mut H,
+) -> Result<usize, Halt>
+    ensures steps { IfOk result (λ steps. IfSome (H.told shelf.old) (λ files. schedule_read bounds (files name.now) ≡ Ok (replicate steps step_action))) }
     ensures few { IfOk result (λ steps. steps < 2 ^ 62) }
-    ensures halts { IfErr result (HaltsAt which.Schedule (H.told shelf.old) schedule_read name.now (H.faults shelf.old) (H.faults shelf.new)) }
+    ensures halts { IfErr result (HaltsAt which.Schedule (H.told shelf.old) (schedule_read bounds) name.now (H.faults shelf.old) (H.faults shelf.new)) }
     ensures kept { H.told shelf.new ≡ H.told shelf.old }
     ensures grows { H.faults shelf.old ≤ H.faults shelf.new }
 {
-    match load(
-        alloc,
-        name,
-        shelf,
-        Which::Schedule,
-        Refusal::ScheduleTooLong,
-    ) {
-        Ok(bytes) => steps_of(bytes.as_slice()),
+    let too_long = Refusal::Schedule(TextFault::TooLong);
+    match load(alloc, name, shelf, Which::Schedule, too_long) {
+        Ok(bytes) => steps_of(alloc, bytes.as_slice(), bounds),
         Err(halt) => Err(halt),
     }
 }
 
 /// The machine of an image at its start, and the steps that a schedule asks for, of three files.
-#[tactic(auto, using(crate::proofs::Loading::image_halts, crate::proofs::Loading::script_halts, crate::proofs::Loading::schedule_halts, crate::proofs::Loading::all_serve))]
+#[tactic(auto, using(crate::proofs::Loading::image_halts, crate::proofs::Loading::all_serve))]
 pub fn load_play<H: Shelf>(
     alloc: Global,
     image: &str,
@@ -102,15 +114,15 @@ pub fn load_play<H: Shelf>(
     ensures halts { IfErr result (Halts (H.told shelf.old) image.now script.now schedule.now (H.faults shelf.old) (H.faults shelf.new)) }
     ensures grows { H.faults shelf.old ≤ H.faults shelf.new }
 {
-    let machine = match load_machine(alloc, image, shelf) {
-        Ok(machine) => machine,
+    let (machine, bounds) = match load_machine(alloc, image, shelf) {
+        Ok(found) => found,
         Err(halt) => return Err(halt),
     };
-    match load_script(alloc, script, shelf) {
+    match load_script(alloc, script, bounds, shelf) {
         Ok(()) => {}
         Err(halt) => return Err(halt),
     }
-    match load_schedule(alloc, schedule, shelf) {
+    match load_schedule(alloc, schedule, bounds, shelf) {
         Ok(steps) => Ok((machine, steps)),
         Err(halt) => Err(halt),
     }

@@ -2,7 +2,7 @@
 
 ghost use Rattle.std.specs.Prelude.{◌≡◌, ◌<◌, ◌≤◌, ◌++◌, length, OnErr};
 ghost use Rattle.arrayvec.specs.ArrayString.{array_string_len};
-ghost use Rattle.dc_base.specs.FaultText.{code_kind_words, image_fault_line, read_fault_line};
+ghost use Rattle.dc_base.specs.FaultText.{code_kind_words, image_fault_line, read_fault_line, text_fault_line, text_kind_words};
 ghost use Rattle.dc_base.specs.TextWords.{ended};
 ghost use Rattle.dc_image.specs.Faults.{refusal_of};
 ghost use Rattle.dc_io.specs.Counts.{Rose};
@@ -10,7 +10,7 @@ ghost use Rattle.dc_top.specs.Refusals as spec;
 ghost use Rattle.dc_top.specs.Written.{Writes};
 
 use crate::writing::{put_line, put_text};
-use dc_base::faults::{AsmKind, ImageFault, Key};
+use dc_base::faults::{AsmKind, ImageFault, Key, TextFault, TextKind};
 use dc_io::{Failed, Sink};
 use dc_text::{Line, push_u32};
 
@@ -19,9 +19,9 @@ use dc_text::{Line, push_u32};
 pub enum Refusal {
     Image(ImageFault),
     ImageNotBuilt,
-    ScriptTooLong,
+    Script(TextFault),
     ScriptNotBuilt,
-    ScheduleTooLong,
+    Schedule(TextFault),
     ScheduleNotBuilt,
 }
 
@@ -32,9 +32,9 @@ pub fn status_of(refusal: &Refusal) -> u8
     match refusal {
         Refusal::Image(_) => 2,
         Refusal::ImageNotBuilt => 2,
-        Refusal::ScriptTooLong => 3,
+        Refusal::Script(_) => 3,
         Refusal::ScriptNotBuilt => 3,
-        Refusal::ScheduleTooLong => 4,
+        Refusal::Schedule(_) => 4,
         Refusal::ScheduleNotBuilt => 4,
     }
 }
@@ -108,6 +108,45 @@ fn image_line(fault: &ImageFault) -> Line
     }
 }
 
+/// What is wrong with a line of a script or a schedule.
+fn text_kind_name(kind: TextKind) -> &'static str
+    ensures named { result.now ≡ text_kind_words kind }
+    ensures short { length result.now ≤ 16 }
+{
+    match kind {
+        TextKind::UnknownWord => "unknown word",
+        TextKind::WrongCount => "wrong count",
+        TextKind::BadNumber => "bad number",
+        TextKind::BadVersion => "bad version",
+        TextKind::TooMany => "too many",
+    }
+}
+
+/// The line of a fault in a script or a schedule; empty for want of memory.
+#[tactic(auto, unfolding(dc_base::specs::FaultText::text_fault_line))]
+fn text_line(name: &str, fault: TextFault) -> Line
+    requires { length name.now ≤ 16 }
+    ensures text { result.bytes ≡ text_fault_line name.now fault }
+    ensures room { array_string_len result < 256 }
+{
+    match fault {
+        TextFault::TooLong => {
+            let mut line = line_with(name);
+            line.push_str(": too long");
+            line
+        }
+        TextFault::Bad { line: number, kind } => {
+            let mut line = line_with(name);
+            line.push_str(" line");
+            push_u32(&mut line, number);
+            line.push_str(": ");
+            line.push_str(text_kind_name(kind));
+            line
+        }
+        TextFault::Memory => line_with(""),
+    }
+}
+
 /// The line of a refusal, without its newline; empty for want of memory.
 #[tactic(auto, unfolding(dc_base::specs::FaultText::text_fault_line))]
 fn line_of(refusal: &Refusal) -> Line
@@ -117,9 +156,9 @@ fn line_of(refusal: &Refusal) -> Line
     match refusal {
         Refusal::Image(fault) => image_line(fault),
         Refusal::ImageNotBuilt => line_with("image: not built yet"),
-        Refusal::ScriptTooLong => line_with("script: too long"),
+        Refusal::Script(fault) => text_line("script", *fault),
         Refusal::ScriptNotBuilt => line_with("script: not built yet"),
-        Refusal::ScheduleTooLong => line_with("schedule: too long"),
+        Refusal::Schedule(fault) => text_line("schedule", *fault),
         Refusal::ScheduleNotBuilt => line_with("schedule: not built yet"),
     }
 }
