@@ -1,0 +1,4 @@
+pub mod Numbers
+pub mod After
+pub mod Starts
+pub mod Room

@@ -1,0 +1,9 @@
+//! The share of a core: the blocks that it runs, in the order in which it runs them.
+#![tactic(auto)]
+
+mod seat;
+mod share;
+#[cfg(test)]
+mod tests;
+
+pub use share::Share;
