@@ -1,5 +1,5 @@
 -- Why three files are not played, from why one of them does not serve; and what is ready where all serve.
-use Rattle.std.proofs.Common.{◌≡◌, ◌∙◌, ◌<◌, ◌≤◌, ℕ, List, length, sym, ap, subst, Some, None, Result, Ok, Err, arith}
+use Rattle.std.proofs.Common.{◌≡◌, ◌∙◌, ◌<◌, ◌≤◌, ℕ, List, [], length, replicate, sym, ap, subst, Some, None, Result, Ok, Err, arith}
 use Rattle.std.specs.Prelude.{IfSome, IsOk}
 use Rattle.dc_base.specs.declared.images.Image.{Image}
 use Rattle.dc_base.specs.declared.actions.Actor.{Actor}
@@ -138,7 +138,7 @@ module _ (image script schedule : List ℕ) where
     schedule_by (Some f) s before then now (halt.Unread w) start read le e = (
       rose_since before then now le e.1,
       subst (λ (v : Which). FaultOf image script schedule f (name_of v image script schedule)) (sym e.0)
-      (at_schedule (is_ok (inputs_read (f image) (f script)) (record { image = start.image; script = [] }) (both_of f s start read))),
+          (at_schedule (is_ok (inputs_read (f image) (f script)) (record { image = start.image; script = [] }) (both_of f s start read))),
     )
     schedule_by files s before then now halt.Memory start read le e = cc
 

@@ -1,7 +1,10 @@
 -- What the bytes of a file are read as, by the tests that the code makes.
-use Rattle.std.proofs.Common.{◌≡◌, ◌∙◌, ◌<◌, ◌==◌, ℕ, List, [], ◌∷◌, Bool, true, false, length, refl, ap, Result, Ok, Err, nat_lt, ◌&&◌, if◌then◌else◌, replicate}
+use Rattle.std.proofs.Common.{◌≡◌, ◌∙◌, ◌<◌, ◌==◌, ℕ, List, [], ◌∷◌, Bool, true, false, length, refl, sym, ap, Result, Ok, Err, nat_lt, ◌&&◌, if◌then◌else◌, replicate}
 use Rattle.std.proofs.lemmas.Bool.{lt-ltb, and_parts, eqb-true}
 use Rattle.dc_base.specs.declared.images.Image.{Image}
+use Rattle.dc_base.specs.declared.images.CoreImage.{CoreImage}
+use Rattle.dc_base.specs.declared.images.BlockImage.{BlockImage}
+use Rattle.dc_base.specs.declared.images.DispImage.{DispImage}
 use Rattle.dc_base.specs.declared.actions.Actor.{Actor}
 use Rattle.dc_base.specs.declared.actions.Actor.TheVariants as actor
 use Rattle.dc_base.specs.declared.actions.Action.{Action}
@@ -21,7 +24,7 @@ use Rattle.dc_image.specs.ImageOf.{image_of}
 use Rattle.dc_top.specs.declared.refusals.Refusal.TheVariants as why
 use Rattle.dc_top.specs.declared.halts.Halt.{Halt}
 use Rattle.dc_top.specs.declared.halts.Halt.TheVariants as halt
-use Rattle.dc_top.specs.FirstImages.{is_first_image}
+use Rattle.dc_top.specs.FirstImages.{first_bounds, is_first_image, is_one_block, is_one_core, is_one_disp}
 use Rattle.dc_top.specs.FirstSchedules.{is_step, is_step_by, are_steps}
 use Rattle.dc_top.specs.Halts.{IsStartOf, RefusedBy, verdict_of}
 use Rattle.dc_top.specs.Playing.{step_action}
@@ -75,9 +78,42 @@ first_read : (bytes : List ℕ) (image : Image) → image_of bytes ≡ Ok image 
 unfolding image_read
 first_read bytes image e = ap (λ (r : Result Image ImageRefusal). fault_as image_refused r >>= if_first) e
 
-pub image_started : (bytes : List ℕ) (image : Image) (s : State) → image_of bytes ≡ Ok image → IsValid image → is_first_image image ≡ true → s ≡ core_start image [] → IsStartOf bytes s (bounds_of image)
-image_started bytes image s e valid first start =
-    record { image = image; valid = valid; read = first_read bytes image e ∙ ap (λ (b : Bool). if b then Ok image else Err (refusals.told 2 image_not_built)) first; start = start; bounds_of = refl }
+abbrev bounds_with : (cores blocks lines : ℕ) → Bounds
+bounds_with cores blocks lines = record { cores = cores; blocks = blocks; lines = lines }
+
+no_lines : (image : Image) (core : CoreImage) (block : BlockImage) (ds : List DispImage) → is_one_disp image core block ds ≡ true → image.lines ≡ 0
+no_lines image core block [] e = cc
+no_lines image core block (d ∷ []) e = eqb-true image.lines 0 (and_parts (image.lines == 0) _ e).0
+no_lines image core block (d ∷ c ∷ ds) e = cc
+
+one_block_of : (image : Image) (core : CoreImage) (bs : List BlockImage) → is_one_block image core bs ≡ true → (length bs ≡ 1) × (image.lines ≡ 0)
+one_block_of image core [] e = cc
+one_block_of image core (b ∷ []) e = (refl, no_lines image core b b.disps e)
+one_block_of image core (b ∷ c ∷ bs) e = cc
+
+one_core_of : (image : Image) (ks : List CoreImage) → is_one_core image ks ≡ true → (length ks ≡ 1) × ((length image.blocks ≡ 1) × (image.lines ≡ 0))
+one_core_of image [] e = cc
+one_core_of image (k ∷ []) e = (refl, one_block_of image k image.blocks e)
+one_core_of image (k ∷ l ∷ ks) e = cc
+
+-- the bounds of such an image
+bounds_first : (image : Image) → is_first_image image ≡ true → first_bounds ≡ bounds_of image
+bounds_first image first =
+    let parts = one_core_of image image.cores first in
+    let cores : length image.cores ≡ 1 = parts.0 in
+    let blocks : length image.blocks ≡ 1 = parts.1.0 in
+    let lines : image.lines ≡ 0 = parts.1.1 in
+    sym
+    (ap (λ (n : ℕ). bounds_with n (length image.blocks) image.lines) cores ∙ ap (λ (n : ℕ). bounds_with 1 n image.lines) blocks ∙ ap (λ (n : ℕ). bounds_with 1 1 n) lines)
+
+pub image_started : (bytes : List ℕ) (image : Image) (s : State) → image_of bytes ≡ Ok image → IsValid image → is_first_image image ≡ true → s ≡ core_start image [] → IsStartOf bytes s first_bounds
+image_started bytes image s e valid first start = record {
+  image = image;
+  valid = valid;
+  read = first_read bytes image e ∙ ap (λ (b : Bool). if b then Ok image else Err (refusals.told 2 image_not_built)) first;
+  start = start;
+  bounds_of = bounds_first image first;
+}
 
 pub image_not_first : (bytes : List ℕ) (image : Image) → image_of bytes ≡ Ok image → is_first_image image ≡ false → image_read bytes ≡ Err (verdict_of why.ImageNotBuilt)
 image_not_first bytes image e first = first_read bytes image e ∙ ap (λ (b : Bool). if b then Ok image else Err (refusals.told 2 image_not_built)) first

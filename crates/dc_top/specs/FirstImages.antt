@@ -1,6 +1,7 @@
 -- Which images the first machine plays, and the machine at its start.
 use Rattle.std.specs.Prelude.{◌≡◌, ◌==◌, ◌&&◌, List, [], ◌∷◌, Bool, true, false, Option, Some, None, replicate}
 use Rattle.dc_base.specs.declared.images.Image.{Image}
+use Rattle.dc_base.specs.declared.commands.Bounds.{Bounds}
 use Rattle.dc_base.specs.declared.images.CoreImage.{CoreImage}
 use Rattle.dc_base.specs.declared.images.BlockImage.{BlockImage}
 use Rattle.dc_base.specs.declared.images.DispImage.{DispImage}
@@ -44,6 +45,10 @@ is_one_core image ks = false
 -- one core, one block and one dispatcher, and nothing else
 abbrev pub is_first_image : Image → Bool
 is_first_image image = is_one_core image image.cores
+
+-- what the scripts and schedules of such an image may name
+abbrev pub first_bounds : Bounds
+first_bounds = record { cores = 1; blocks = 1; lines = 0 }
 
 abbrev pub first_of : Image → CoreImage → BlockImage → DispImage → First
 first_of image core block disp = record {

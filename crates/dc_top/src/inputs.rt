@@ -6,9 +6,10 @@ ghost use Rattle.dc_base.specs.Valid.{IsValid};
 ghost use Rattle.dc_base.specs.ScriptText.{schedule_of, script_of};
 ghost use Rattle.dc_image.specs.ImageOf.{image_of};
 ghost use Rattle.dc_top.specs.First.{state_of};
+ghost use Rattle.dc_top.specs.FirstImages.{first_bounds};
 ghost use Rattle.dc_top.specs.Halts.{IsStartOf, RefusedBy};
 ghost use Rattle.dc_top.specs.Playing.{step_action};
-ghost use Rattle.dc_top.specs.Verdict.{bounds_of, image_read, image_refused, schedule_read, schedule_refused, script_read, script_refused};
+ghost use Rattle.dc_top.specs.Verdict.{image_read, image_refused, schedule_read, schedule_refused, script_read, script_refused};
 
 use crate::first::images::first_machine;
 use crate::first::machine::FirstMachine;
@@ -35,31 +36,18 @@ fn image_in(alloc: Global, bytes: &[u8]) -> Result<Image, Halt>
     }
 }
 
-/// How many cores, blocks and lines the scripts and schedules of an image may name.
-fn bounds_of(image: &Image) -> Bounds
-    requires { IsValid image.now }
-    ensures { result ≡ bounds_of image.now }
-{
-    Bounds {
-        cores: image.cores.len() as u32,
-        blocks: image.blocks.len() as u32,
-        lines: image.lines,
-    }
-}
-
-/// The machine of an image at its start, and the bounds of its scripts and schedules.
+/// The machine of an image at its start.
 #[tactic(auto, using(crate::proofs::Readings::image_started, crate::proofs::Readings::image_not_first, crate::proofs::Readings::image_refused_first))]
-pub fn machine_of(alloc: Global, bytes: &[u8]) -> Result<(FirstMachine, Bounds), Halt>
-    ensures machine { IfOk result (λ r. IsStartOf bytes.now (state_of r.0) r.1) }
+pub fn machine_of(alloc: Global, bytes: &[u8]) -> Result<FirstMachine, Halt>
+    ensures machine { IfOk result (λ m. IsStartOf bytes.now (state_of m) first_bounds) }
     ensures refused { IfErr result (RefusedBy (image_read bytes.now)) }
 {
     let image = match image_in(alloc, bytes) {
         Ok(image) => image,
         Err(halt) => return Err(halt),
     };
-    let bounds = bounds_of(&image);
     match first_machine(alloc, &image) {
-        Ok(Some(machine)) => Ok((machine, bounds)),
+        Ok(Some(machine)) => Ok(machine),
         Ok(None) => Err(Halt::Refused(Refusal::ImageNotBuilt)),
         Err(_) => Err(Halt::Memory),
     }

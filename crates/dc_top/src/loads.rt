@@ -3,6 +3,7 @@
 ghost use Rattle.std.specs.Prelude.{◌≡◌, ◌≤◌, ◌^◌, ◌<◌, [], IfOk, IfErr, IfSome, OnOk, Ok, length, replicate};
 ghost use Rattle.dc_base.specs.TextWords.{longest_file};
 ghost use Rattle.dc_top.specs.First.{state_of};
+ghost use Rattle.dc_top.specs.FirstImages.{first_bounds};
 ghost use Rattle.dc_top.specs.Halts.{Halts, HaltsAt, IsReady, IsStartOf, MissesAt};
 ghost use Rattle.dc_top.specs.Playing.{step_action};
 ghost use Rattle.dc_top.specs.Verdict.{image_read, script_read, schedule_read};
@@ -16,6 +17,13 @@ use dc_base::commands::Bounds;
 use dc_base::faults::{ImageFault, TextFault};
 use dc_io::{Load, Shelf};
 use std::alloc::Global;
+
+/// What the scripts and schedules of an image of one core and one block may name.
+const FIRST_BOUNDS: Bounds = Bounds {
+    cores: 1,
+    blocks: 1,
+    lines: 0,
+};
 
 /// Loads a file into an empty vector, and says what a failure is.
 fn load<H: Shelf>(
@@ -40,14 +48,10 @@ fn load<H: Shelf>(
     }
 }
 
-/// The machine of an image file at its start, and the bounds of its scripts and schedules.
+/// The machine of an image file, at its start.
 #[tactic(auto, using(crate::proofs::Loading::image_misses, crate::proofs::Loading::image_refuses, crate::proofs::Loading::image_serves))]
-fn load_machine<H: Shelf>(
-    alloc: Global,
-    name: &str,
-    shelf: &mut H,
-) -> Result<(FirstMachine, Bounds), Halt>
-    ensures machine { IfOk result (λ r. IfSome (H.told shelf.old) (λ files. IsStartOf (files name.now) (state_of r.0) r.1)) }
+fn load_machine<H: Shelf>(alloc: Global, name: &str, shelf: &mut H) -> Result<FirstMachine, Halt>
+    ensures machine { IfOk result (λ m. IfSome (H.told shelf.old) (λ files. IsStartOf (files name.now) (state_of m) first_bounds)) }
     ensures halts { IfErr result (HaltsAt which.Image (H.told shelf.old) image_read name.now (H.faults shelf.old) (H.faults shelf.new)) }
     ensures kept { H.told shelf.new ≡ H.told shelf.old }
     ensures grows { H.faults shelf.old ≤ H.faults shelf.new }
@@ -101,7 +105,7 @@ fn load_schedule<H: Shelf>(
 }
 
 /// The machine of an image at its start, and the steps that a schedule asks for, of three files.
-#[tactic(auto, using(crate::proofs::Loading::image_halts, crate::proofs::Loading::all_serve))]
+#[tactic(auto, using(crate::proofs::Loading::image_halts))]
 pub fn load_play<H: Shelf>(
     alloc: Global,
     image: &str,
@@ -114,15 +118,15 @@ pub fn load_play<H: Shelf>(
     ensures halts { IfErr result (Halts (H.told shelf.old) image.now script.now schedule.now (H.faults shelf.old) (H.faults shelf.new)) }
     ensures grows { H.faults shelf.old ≤ H.faults shelf.new }
 {
-    let (machine, bounds) = match load_machine(alloc, image, shelf) {
-        Ok(found) => found,
+    let machine = match load_machine(alloc, image, shelf) {
+        Ok(machine) => machine,
         Err(halt) => return Err(halt),
     };
-    match load_script(alloc, script, bounds, shelf) {
+    match load_script(alloc, script, FIRST_BOUNDS, shelf) {
         Ok(()) => {}
         Err(halt) => return Err(halt),
     }
-    match load_schedule(alloc, schedule, bounds, shelf) {
+    match load_schedule(alloc, schedule, FIRST_BOUNDS, shelf) {
         Ok(steps) => Ok((machine, steps)),
         Err(halt) => Err(halt),
     }

@@ -154,6 +154,16 @@ fn plays_write_their_texts_and_refusals_their_lines(rt: HostRuntime) -> Result<(
             4,
             "schedule: not built yet\n",
         ),
+        (
+            (HELLO, "#\nstop 9\n", STEP),
+            3,
+            "script line 2: bad number\n",
+        ),
+        (
+            (HELLO, "", "core 0 step\nwait\n"),
+            4,
+            "schedule line 2: unknown word\n",
+        ),
     ];
     for (files, status, text) in table {
         check_play(&rt, alloc, files, status, text)?;
@@ -181,7 +191,7 @@ fn each_put_that_fails_leaves_the_lines_before_it(rt: HostRuntime) -> Result<(),
         assert!(&rt; failing == 1 || sink.bytes().len() > left, "put {failing}");
         left = sink.bytes().len();
     }
-    assert!(&rt; left + 4 == EXPECTED.len());
+    assert_eq!(&rt; left, 234);
     Ok(())
 }
 
