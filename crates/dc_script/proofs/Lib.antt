@@ -1,2 +1,4 @@
 mod TextLines
 mod Rows
+mod Counting
+mod Validity

@@ -1,11 +1,21 @@
 -- A text is read line by line.
-use Rattle.std.specs.Prelude.{◌≡◌, ℕ, ◌+◌, ◌-◌, List, ◌∷◌, ◌++◌, length, Result, Ok, Err}
+use Rattle.std.specs.Prelude.{◌≡◌, ℕ, ◌==◌, Bool, false, ◌+◌, ◌-◌, List, [], ◌∷◌, ◌++◌, length, if◌then◌else◌, Result, Ok, Err}
 use Rattle.dc_base.specs.declared.commands.Bounds.{Bounds}
 use Rattle.dc_base.specs.declared.faults.TextKind.{TextKind}
 use Rattle.dc_base.specs.declared.faults.TextFault.{TextFault}
 use Rattle.dc_base.specs.declared.faults.TextFault.TheVariants.{TooLong, Bad, Memory}
 use Rattle.dc_base.specs.States.{Settings}
-use Rattle.dc_base.specs.ScriptText.{counted_from, lines_read}
+use Rattle.dc_base.specs.TextWords.{first_words}
+use Rattle.dc_base.specs.ScriptText.{counts, counted_from, lines_read}
+
+-- the first byte says that the line is a comment
+abbrev pub is_comment : List ℕ → Bool
+is_comment [] = false
+is_comment (b ∷ line) = b == 35
+
+-- the first words of a line that counts; none of another
+abbrev pub counted_words : List ℕ → List (List ℕ)
+counted_words line = if counts line then first_words line else []
 
 -- what was found, and what is found behind it
 abbrev pub joined : {A : Type 0} → List A → Result (List A) TextFault → Result (List A) TextFault
@@ -22,8 +32,8 @@ AddsLine read limit old new number line (Ok u) = (more : List (List ℕ)) → sa
 AddsLine read limit old new number line (Err Memory) = Unit {0}
 AddsLine read limit old new number line (Err fault) = (more : List (List ℕ)) → said_from read limit old number (line ∷ more) ≡ Err fault
 
--- settings with so many cores, blocks and lines
-pub record AreWithin (bounds : Bounds) (t : Settings) : Type 0 where
+-- the numbers of cores, blocks and lines that these settings have
+pub record AreBounds (bounds : Bounds) (t : Settings) : Type 0 where
   pub cores : t.cores ≡ bounds.cores
   pub blocks : t.blocks ≡ bounds.blocks
   pub lines : t.lines ≡ bounds.lines

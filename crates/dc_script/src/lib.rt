@@ -1,9 +1,15 @@
-//! Scripts and schedules: their texts are read.
+//! Scripts and schedules: their texts are read, within bounds on the cores, blocks and lines that they name.
 #![tactic(auto)]
 
 mod commands;
 mod lines;
 mod schedules;
 mod scripts;
+mod texts;
 mod values;
 mod words;
+
+pub use dc_base::commands::{Bounds, ScriptLine};
+pub use dc_base::faults::{TextFault, TextKind};
+pub use schedules::{Schedule, read_schedule};
+pub use scripts::{Script, read_script};

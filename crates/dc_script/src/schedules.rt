@@ -1,17 +1,26 @@
 //! Schedules: the actions of the cores and of the script, and whole texts.
 #![tactic(auto, using(crate::proofs::Rows::not_none, crate::proofs::Rows::not_none_behind, crate::proofs::Rows::not_one_behind, crate::proofs::Rows::not_two_behind))]
 
-ghost use Rattle.std.specs.Prelude.{◌≡◌, ◌∷◌};
+ghost use Rattle.std.specs.Prelude.{◌≡◌, ◌∷◌, ◌⊎◌, Ok, Err, IfOk, IfErr};
 ghost use Rattle.dc_base.specs.declared.actions.Actor.TheVariants as actor;
 ghost use Rattle.dc_base.specs.declared.actions.Action.TheVariants as action;
 ghost use Rattle.dc_base.specs.ScriptText as spec;
+ghost use Rattle.dc_base.specs.States.{Settings};
+ghost use Rattle.dc_base.specs.Valid.{IsValidSchedule};
+ghost use Rattle.dc_script.specs.Texts.{AreBounds};
 ghost use Rattle.dc_script.specs.Words.{texts_of};
 
+use crate::texts::{Row, read_text};
 use crate::values::{read_block, read_core, read_disp, read_line};
 use crate::words::Words;
 use dc_base::actions::{Action, Actor};
 use dc_base::commands::Bounds;
-use dc_base::faults::TextKind;
+use dc_base::faults::{TextFault, TextKind};
+use dc_base::lists::Items;
+use std::alloc::Global;
+
+/// The lines of a schedule that count, in order: who acts, and what it does.
+pub type Schedule = Items<(Actor, Action)>;
 
 /// An action of a core that has no further words.
 fn alone(
@@ -91,19 +100,29 @@ fn of_script(action: Action, words: &Words) -> Result<(Actor, Action), TextKind>
     Ok((Actor::Script, action))
 }
 
-/// The line of a schedule that begins with this name.
-#[tactic(auto, unfolding(dc_base::specs::ScriptText::schedule_line))]
-pub(crate) fn schedule_line(
-    bounds: Bounds,
-    name: &[u8],
-    words: &Words,
-) -> Result<(Actor, Action), TextKind>
-    ensures { result ≡ spec.schedule_line bounds (name.now ∷ texts_of words.now) }
-{
-    match name {
-        b"core" => core_line(bounds, words),
-        b"script" => of_script(Action::Script, words),
-        b"raise" => of_script(Action::Raise, words),
-        _ => Err(TextKind::UnknownWord),
+impl Row for (Actor, Action) {
+    ghost line_read = { spec.schedule_line };
+
+    /// The line of a schedule that begins with this name.
+    #[tactic(auto, unfolding(dc_base::specs::ScriptText::schedule_line))]
+    fn read(bounds: Bounds, name: &[u8], words: &Words) -> Result<(Actor, Action), TextKind> {
+        match name {
+            b"core" => core_line(bounds, words),
+            b"script" => of_script(Action::Script, words),
+            b"raise" => of_script(Action::Raise, words),
+            _ => Err(TextKind::UnknownWord),
+        }
     }
+}
+
+/// Reads a schedule of at most 262,144 lines that count. A refusal names its first line with a fault, counted from 1; `TooLong` comes above 33,554,432 bytes.
+#[tactic(auto, unfolding(dc_base::specs::ScriptText::schedule_of))]
+pub fn read_schedule(alloc: Global, bytes: &[u8], bounds: Bounds) -> Result<Schedule, TextFault>
+    ensures schedule { IfOk result (λ schedule. spec.schedule_of bounds bytes.now ≡ Ok schedule) }
+    ensures valid { IfOk result (λ schedule. (t : Settings) → AreBounds bounds t → IsValidSchedule t schedule) }
+
+    // Only want of memory is not the text's.
+    ensures refused { IfErr result (λ fault. (fault ≡ TextFault.Memory) ⊎ (spec.schedule_of bounds bytes.now ≡ Err fault)) }
+{
+    read_text(alloc, bytes, bounds, 262144)
 }
