@@ -15,10 +15,7 @@ fn start(bounds: Bounds, words: &Words) -> Result<Command, TextKind>
     ensures { result ≡ spec.two_words (spec.read_core bounds) spec.read_version row.Start (texts_of words.now) }
 {
     let (core, version) = words.two()?;
-    Ok(Command::Start(
-        read_core(bounds, core)?,
-        read_version(version)?,
-    ))
+    Ok(Command::Start(read_core(bounds, core)?, read_version(version)?))
 }
 
 fn stop(bounds: Bounds, words: &Words) -> Result<Command, TextKind>
@@ -32,59 +29,40 @@ fn replace(bounds: Bounds, words: &Words) -> Result<Command, TextKind>
     ensures { result ≡ spec.two_words (spec.read_core bounds) spec.read_version row.Replace (texts_of words.now) }
 {
     let (core, version) = words.two()?;
-    Ok(Command::Replace(
-        read_core(bounds, core)?,
-        read_version(version)?,
-    ))
+    Ok(Command::Replace(read_core(bounds, core)?, read_version(version)?))
 }
 
 fn attach(bounds: Bounds, words: &Words) -> Result<Command, TextKind>
     ensures { result ≡ spec.two_words (spec.read_block bounds) (spec.read_core bounds) row.Attach (texts_of words.now) }
 {
     let (block, core) = words.two()?;
-    Ok(Command::Attach(
-        read_block(bounds, block)?,
-        read_core(bounds, core)?,
-    ))
+    Ok(Command::Attach(read_block(bounds, block)?, read_core(bounds, core)?))
 }
 
 fn move_home(bounds: Bounds, words: &Words) -> Result<Command, TextKind>
     ensures { result ≡ spec.two_words (spec.read_block bounds) (spec.read_core bounds) row.Move (texts_of words.now) }
 {
     let (block, core) = words.two()?;
-    Ok(Command::Move(
-        read_block(bounds, block)?,
-        read_core(bounds, core)?,
-    ))
+    Ok(Command::Move(read_block(bounds, block)?, read_core(bounds, core)?))
 }
 
 fn park(bounds: Bounds, words: &Words) -> Result<Command, TextKind>
     ensures { result ≡ spec.two_words (spec.read_block bounds) (spec.read_core bounds) row.Park (texts_of words.now) }
 {
     let (block, core) = words.two()?;
-    Ok(Command::Park(
-        read_block(bounds, block)?,
-        read_core(bounds, core)?,
-    ))
+    Ok(Command::Park(read_block(bounds, block)?, read_core(bounds, core)?))
 }
 
 fn unpark(bounds: Bounds, words: &Words) -> Result<Command, TextKind>
     ensures { result ≡ spec.two_words (spec.read_block bounds) (spec.read_core bounds) row.Unpark (texts_of words.now) }
 {
     let (block, core) = words.two()?;
-    Ok(Command::Unpark(
-        read_block(bounds, block)?,
-        read_core(bounds, core)?,
-    ))
+    Ok(Command::Unpark(read_block(bounds, block)?, read_core(bounds, core)?))
 }
 
 /// The command of this name.
 #[tactic(auto, unfolding(dc_base::specs::ScriptText::command_of))]
-pub(crate) fn read_command(
-    bounds: Bounds,
-    name: &[u8],
-    words: &Words,
-) -> Result<Command, TextKind>
+pub(crate) fn read_command(bounds: Bounds, name: &[u8], words: &Words) -> Result<Command, TextKind>
     ensures { result ≡ spec.command_of bounds name.now (texts_of words.now) }
 {
     match name {

@@ -5,6 +5,8 @@ mod commands;
 mod lines;
 mod schedules;
 mod scripts;
+#[cfg(test)]
+mod tests;
 mod texts;
 mod values;
 mod words;

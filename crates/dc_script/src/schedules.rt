@@ -42,10 +42,7 @@ fn intake(bounds: Bounds, core: &[u8], words: &Words) -> Result<(Actor, Action),
 {
     let line = words.one()?;
     let core = read_core(bounds, core)?;
-    Ok((
-        Actor::Core(core),
-        Action::Intake(read_line(bounds, line)?),
-    ))
+    Ok((Actor::Core(core), Action::Intake(read_line(bounds, line)?)))
 }
 
 fn wake(bounds: Bounds, core: &[u8], words: &Words) -> Result<(Actor, Action), TextKind>

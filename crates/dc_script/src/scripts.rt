@@ -32,10 +32,7 @@ fn route(bounds: Bounds, words: &Words) -> Result<ScriptLine, TextKind>
     ensures { result ≡ spec.two_words (spec.read_line bounds) (spec.read_core bounds) line.Route (texts_of words.now) }
 {
     let (line, core) = words.two()?;
-    Ok(ScriptLine::Route(
-        read_line(bounds, line)?,
-        read_core(bounds, core)?,
-    ))
+    Ok(ScriptLine::Route(read_line(bounds, line)?, read_core(bounds, core)?))
 }
 
 /// A wait for so many words of a block, with a limit of polls.
