@@ -1,8 +1,6 @@
 -- A row of the grammar, by its words.
-use Rattle.std.proofs.Common.{◌≡◌, ◌≢◌, ℕ, List, [], ◌∷◌, length, Result, Ok, Err, refl, ap, sym, ◌∙◌}
+use Rattle.std.proofs.Common.{◌≡◌, ℕ, List, [], ◌∷◌, Result, Err, refl, ap}
 use Rattle.dc_base.specs.declared.faults.TextKind.{TextKind}
-use Rattle.dc_base.specs.declared.faults.TextKind.TheVariants.{WrongCount}
-use Rattle.dc_base.specs.Results.{◌>>=◌}
 use Rattle.dc_base.specs.ScriptText.{no_words, one_word, two_words, three_words}
 use Rattle.dc_script.specs.Words.{IsMiscount}
 

@@ -3,7 +3,7 @@ use Rattle.std.specs.Prelude.{◌≡◌, ℕ, ◌==◌, Bool, false, ◌+◌, �
 use Rattle.dc_base.specs.declared.commands.Bounds.{Bounds}
 use Rattle.dc_base.specs.declared.faults.TextKind.{TextKind}
 use Rattle.dc_base.specs.declared.faults.TextFault.{TextFault}
-use Rattle.dc_base.specs.declared.faults.TextFault.TheVariants.{TooLong, Bad, Memory}
+use Rattle.dc_base.specs.declared.faults.TextFault.TheVariants.{Memory}
 use Rattle.dc_base.specs.States.{Settings}
 use Rattle.dc_base.specs.TextWords.{first_words}
 use Rattle.dc_base.specs.ScriptText.{counts, counted_from, lines_read}

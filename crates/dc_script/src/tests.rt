@@ -137,9 +137,9 @@ fn scripts_and_schedules_have_a_most_of_lines(rt: HostRuntime) -> Result<(), Fai
 #[test]
 fn texts_have_a_most_of_bytes(rt: HostRuntime) -> Result<(), Fail> {
     let mut text = Vec::new(rt.alloc());
-    text.resize(33_554_432, b'\n')?;
+    text.resize(33_554_432, b'#')?;
     assert!(rt; read_script(rt.alloc(), &text, BOUNDS).is_ok());
-    text.push(b'\n')?;
+    text.push(b'#')?;
     assert_eq!(rt;
         read_script(rt.alloc(), &text, BOUNDS).err(),
         Some(TextFault::TooLong)

@@ -1,11 +1,10 @@
 //! Texts are read line by line.
 
-ghost use Rattle.std.specs.Prelude.{◌≡◌, ◌≤◌, ◌<◌, ◌+◌, ◌^◌, ◌∷◌, ◌⊎◌, All, length, IfOk, OnOk, IfErr};
+ghost use Rattle.std.specs.Prelude.{◌≡◌, ◌≤◌, ◌<◌, ◌^◌, ◌∷◌, ◌⊎◌, All, length, IfOk, OnOk, IfErr};
 ghost use Rattle.dc_base.specs.TextWords.{longest_file, lines_of};
 ghost use Rattle.dc_base.specs.ScriptText.{text_read, counted_from, lines_read};
 ghost use Rattle.dc_text.specs.Places.{texts_at, IsPlaceIn};
-ghost use Rattle.dc_script.specs.Texts.{counted_words, AddsLine};
-ghost use Rattle.dc_script.specs.Texts as spec;
+ghost use Rattle.dc_script.specs.Texts.{is_comment, counted_words, AddsLine};
 
 use crate::lines::first_line;
 use crate::words::Words;
@@ -34,7 +33,7 @@ pub(crate) trait Row: Copy {
 }
 
 fn is_comment(line: &[u8]) -> bool
-    ensures { result ≡ spec.is_comment line.now }
+    ensures { result ≡ is_comment line.now }
 {
     line.starts_with(b"#")
 }

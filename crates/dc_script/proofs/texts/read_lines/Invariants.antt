@@ -1,4 +1,4 @@
-use Rattle.std.proofs.Common.{◌≡◌, ℕ, ◌+◌, ◌≤◌, length}
+use Rattle.std.proofs.Common.{◌≡◌, ◌+◌, ◌≤◌, length}
 use Rattle.dc_base.specs.TextWords.{lines_of}
 use Rattle.dc_base.specs.ScriptText.{counted_from, lines_read}
 use Rattle.dc_script.specs.Lines.{lines_left, most_left}
