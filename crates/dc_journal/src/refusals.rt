@@ -25,43 +25,35 @@ fn same_version(words: &[&[u8]]) -> Option<Refusal>
 pub(crate) fn refusal_of(words: &[&[u8]]) -> Option<Refusal>
     ensures { result ≡ spec.refusal_of (texts words.now) }
 {
+    let core = core_at(words, 1);
+    let block = block_at(words, 1);
     if is_at(words, 0, "AlreadyOn") {
-        Some(Refusal::AlreadyOn {
-            core: core_at(words, 1),
-        })
+        Some(Refusal::AlreadyOn { core })
     } else if is_at(words, 0, "Off") {
-        Some(Refusal::Off {
-            core: core_at(words, 1),
-        })
+        Some(Refusal::Off { core })
     } else if is_at(words, 0, "SameVersion") {
         same_version(words)
     } else if is_at(words, 0, "NotAtRest") {
         Some(Refusal::NotAtRest {
-            block: block_at(words, 1),
+            block,
             core: core_at(words, 2),
         })
     } else if is_at(words, 0, "HomeTaken") {
         Some(Refusal::HomeTaken {
-            core: core_at(words, 1),
+            core,
             block: block_at(words, 2),
         })
     } else if is_at(words, 0, "NotHome") {
-        Some(Refusal::NotHome {
-            block: block_at(words, 1),
-        })
+        Some(Refusal::NotHome { block })
     } else if is_at(words, 0, "NotParked") {
-        Some(Refusal::NotParked {
-            block: block_at(words, 1),
-        })
+        Some(Refusal::NotParked { block })
     } else if is_at(words, 0, "OnThatCore") {
         Some(Refusal::OnThatCore {
-            block: block_at(words, 1),
+            block,
             core: core_at(words, 2),
         })
     } else if is_at(words, 0, "ShareFull") {
-        Some(Refusal::ShareFull {
-            core: core_at(words, 1),
-        })
+        Some(Refusal::ShareFull { core })
     } else {
         None
     }
