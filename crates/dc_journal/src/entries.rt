@@ -4,18 +4,19 @@ ghost use Rattle.std.specs.Prelude.{◌≡◌, ◌+◌, ◌≤◌, ◌<◌, IsTr
 ghost use Rattle.arrayvec.specs.ArrayString.{array_string_len};
 ghost use Rattle.dc_base.specs.TextWords.{add_words};
 ghost use Rattle.dc_base.specs.EntryText.{entry_text, actor_words};
-ghost use Rattle.dc_base.specs.EntryRanges.{has_line};
+ghost use Rattle.dc_base.specs.EntryRanges as spec;
 
 use crate::whats::{push_core_what, push_script_what};
 use dc_base::actions::Actor;
-use dc_base::entries::Entry;
+use dc_base::calls::End;
+use dc_base::entries::{Entry, What};
 use dc_base::numbers::Ticket;
 use dc_text::{Line, push_u32, push_u64, push_word};
 
 /// The line of an entry, without its newline, for which it has room.
 #[tactic(auto, unfolding(dc_base::specs::EntryText::entry_text, dc_base::specs::EntryRanges::has_line))]
 pub fn entry_line(ticket: Ticket, entry: &Entry) -> Line
-    requires { IsTrue (has_line entry.now) }
+    requires { IsTrue (spec.has_line entry.now) }
     ensures text { result.bytes ≡ entry_text ticket.0 entry.now }
     ensures room { array_string_len result < 256 }
 {
@@ -27,6 +28,52 @@ pub fn entry_line(ticket: Ticket, entry: &Entry) -> Line
         Actor::Script => push_script_what(&mut line, &entry.what),
     }
     line
+}
+
+/// Whether a core makes it, and its end has a word.
+fn is_of_core(what: &What) -> bool
+    ensures { result ≡ spec.is_of_core what.now }
+{
+    match what {
+        What::Slice { end, .. } => !matches!(end, End::Empty),
+        What::SliceNone { .. }
+        | What::Idle { .. }
+        | What::Wake { .. }
+        | What::Intake { .. }
+        | What::Start { .. }
+        | What::Stop { .. }
+        | What::Replace { .. }
+        | What::Adopt { .. }
+        | What::Release { .. } => true,
+        _ => false,
+    }
+}
+
+/// Whether the script makes it.
+fn is_of_script(what: &What) -> bool
+    ensures { result ≡ spec.is_of_script what.now }
+{
+    match what {
+        What::Post { .. }
+        | What::Done { .. }
+        | What::Refused { .. }
+        | What::Raise { .. }
+        | What::Route { .. }
+        | What::Met { .. }
+        | What::Unmet { .. } => true,
+        _ => false,
+    }
+}
+
+/// Whether there is a line for the entry.
+#[tactic(auto, unfolding(dc_base::specs::EntryRanges::has_line))]
+pub(crate) fn has_line(entry: &Entry) -> bool
+    ensures { result ≡ spec.has_line entry.now }
+{
+    match entry.actor {
+        Actor::Core(_) => is_of_core(&entry.what),
+        Actor::Script => is_of_script(&entry.what),
+    }
 }
 
 /// Adds who made an entry.

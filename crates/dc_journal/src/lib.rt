@@ -1,12 +1,19 @@
 //! The lines of journals and of reports.
 #![tactic(auto)]
 
+mod candidates;
+mod ends;
 mod entries;
+mod journals;
 mod names;
+mod refusals;
 mod reports;
+mod scan;
 #[cfg(test)]
 mod tests;
 mod whats;
+mod words;
 
 pub use entries::entry_line;
+pub use journals::read_journal;
 pub use reports::report_line;

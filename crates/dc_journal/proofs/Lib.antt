@@ -1,0 +1,5 @@
+mod Choices
+mod Numbers
+mod Reading
+mod TextLines
+mod WordPlaces
