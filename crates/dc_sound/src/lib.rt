@@ -1,6 +1,10 @@
 //! Laws of the machine with cores: each action keeps each part of soundness, and so each run keeps soundness.
 #![tactic(auto)]
 
+mod controls;
+
+pub use controls::{firing_keeps_controls, latching_keeps_controls, picked_is_ready, ready_stand_once, slices_keep_controls, started_controls_are_sound, waking_keeps_controls};
+
 ghost use Rattle.std.specs.Prelude.{◌≡◌, ℕ, List};
 ghost use Rattle.dc_base.specs.declared.actions.Actor.{Actor};
 ghost use Rattle.dc_base.specs.declared.actions.Action.{Action};
