@@ -4,7 +4,6 @@ use Rattle.std.specs.Prelude.{slice_get, replicate, IfSome}
 use Rattle.dc_base.specs.declared.calls.Need.{Need}
 use Rattle.dc_base.specs.declared.calls.Need.TheVariants as needs
 use Rattle.dc_base.specs.declared.kernels.Clocks.TheVariants.{Kept}
-use Rattle.dc_base.specs.Words.{Each}
 use Rattle.dc_base.specs.Channels.{Ring}
 use Rattle.dc_base.specs.Lines.{Wire}
 use Rattle.dc_base.specs.Serving.{Outside, nothing_outside, console_outside, channel_outside, line_outside}

@@ -1,11 +1,11 @@
 -- A dispatcher is listed in the ready list where it is ready.
-use Rattle.std.proofs.Common.{◌≡◌, ℕ, ◌+◌, ◌<◌, List, [], ◌∷◌, Bool, true, false, Some, refl, sym, ap, ◌∙◌, subst, arith}
+use Rattle.std.proofs.Common.{◌≡◌, ℕ, ◌+◌, ◌<◌, List, [], ◌∷◌, ◌++◌, Bool, true, false, Some, refl, ap, subst, arith}
 use Rattle.std.specs.Prelude.{slice_get, ◌==◌, ◌||◌}
 use Rattle.dc_base.specs.declared.dispatchers.DispState.TheVariants as disp
 use Rattle.dc_base.specs.ControlBlocks.{ControlBlock}
 use Rattle.dc_base.specs.KeptByBlocks.{HasReady, is_ready}
 use Rattle.dc_base.specs.Words.{lists, without, count_of}
-use Rattle.dc_sound.proofs.Ready.{times_in, one_if, times-cons, without_same}
+use Rattle.dc_sound.proofs.Ready.{times_in, one_if, times-cons, times-append, one_same, count_most, without_same}
 use Rattle.dc_sound.proofs.Walks.{is_ready_at}
 
 -- a number is listed where it stands once or more
@@ -39,6 +39,17 @@ module _ (x : ControlBlock) (h : HasReady x) (d : ℕ) where
       let k = h d in
       let one : count_of (is_ready (slice_get x.states d)) ≡ 1 = ap (λ o. count_of (is_ready o)) e in
       times_listed d x.ready (omega (arith, k, one))
+
+  pub listed_once : (before after : List ℕ) → x.ready ≡ before ++ d ∷ after → lists (before ++ after) d ≡ false
+  listed_once before after e =
+      let k = h d in
+      let most = count_most (is_ready (slice_get x.states d)) in
+      let here = ap (times_in d) e in
+      let split = times-append d before (d ∷ after) in
+      let first = times-cons d d after in
+      let self = one_same d in
+      let rest = times-append d before after in
+      unlisted d (before ++ after) (omega (arith, k, most, here, split, first, self, rest)) (lists (before ++ after) d) refl
 
   pub none_left : lists (without d x.ready) d ≡ false
   none_left = unlisted d (without d x.ready) (without_same d x.ready) (lists (without d x.ready) d) refl

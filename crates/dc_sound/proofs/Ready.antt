@@ -48,7 +48,7 @@ times-append d xs ys = sum_by-append (λ e. one_if (e == d)) xs ys
 one_other : (x d : ℕ) → (x ≡ d → ⊥) → one_if (x == d) ≡ 0
 one_other x d h = ap (λ (t : Bool). one_if t) (other_is x d h)
 
-one_same : (d : ℕ) → one_if (d == d) ≡ 1
+pub one_same : (d : ℕ) → one_if (d == d) ≡ 1
 one_same d = ap (λ (t : Bool). one_if t) (same_is d)
 
 -- waiters
@@ -178,7 +178,7 @@ unfolding pick
 picked_in version.Rr dues xs d h = front_in xs d h
 picked_in version.Edf dues xs d h = earliest_in dues xs d h
 
-count_most : (t : Bool) → count_of t ≤ 1
+pub count_most : (t : Bool) → count_of t ≤ 1
 count_most true = omega arith
 count_most false = omega arith
 

@@ -1,6 +1,6 @@
 //! Laws of one control block, whatever stands beside it: what it keeps by itself, each change of it keeps.
 
-ghost use Rattle.std.specs.Prelude.{◌≡◌, ℕ, ◌<◌, Bool, true, false, Some, slice_get, length};
+ghost use Rattle.std.specs.Prelude.{◌≡◌, ℕ, ◌<◌, List, ◌∷◌, ◌++◌, true, false, Some, slice_get, length};
 ghost use Rattle.dc_base.specs.declared.dispatchers.DispState.TheVariants as disp;
 ghost use Rattle.dc_base.specs.declared.dispatchers.Wait.{Wait};
 ghost use Rattle.dc_base.specs.declared.images.BlockImage.{BlockImage};
@@ -48,9 +48,10 @@ pub fn picked_is_ready()
     ensures { (v : Version) (d : ℕ) (x : ControlBlock) → IsSoundControl x → pick v x.dues x.ready ≡ Some d → (slice_get x.states d ≡ Some disp.Ready) × (d < length x.states) }
 {}
 
-/// The ready list has exactly the ready dispatchers, and none of them is left when it is taken out.
+/// The ready list has exactly the ready dispatchers, each once, and none of one that is taken out.
 pub fn ready_stand_once()
     ensures listed { (x : ControlBlock) → HasReady x → (d : ℕ) → lists x.ready d ≡ true → slice_get x.states d ≡ Some disp.Ready }
     ensures all { (x : ControlBlock) → HasReady x → (d : ℕ) → slice_get x.states d ≡ Some disp.Ready → lists x.ready d ≡ true }
-    ensures once { (x : ControlBlock) → HasReady x → (d : ℕ) → lists (without d x.ready) d ≡ false }
+    ensures once { (x : ControlBlock) → HasReady x → (d : ℕ) (before after : List ℕ) → x.ready ≡ before ++ d ∷ after → lists (before ++ after) d ≡ false }
+    ensures taken { (x : ControlBlock) → HasReady x → (d : ℕ) → lists (without d x.ready) d ≡ false }
 {}
