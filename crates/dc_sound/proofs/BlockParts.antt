@@ -50,7 +50,7 @@ module _ (s : State) (chs : List Change) (e : Entry) (k : Kind s chs e) where
   timers_kept h = kept_alone s chs e HasTimers (keeps_timers s) h k
 
   pub caps_kept : AllCaps s → AllShapes s → KeepsLines s → AllCaps (apply s chs)
-  caps_kept h shapes lines = kept_under s chs e HasShape HasCaps (keeps_shape s) (keeps_caps s lines) shapes h k
+  caps_kept h shapes lines = kept_under s chs e HasShape HasCaps (keeps_shape s) (keeps_caps s lines.rights) shapes h k
 
   pub words_kept : AllWords s → AllShapes s → IsNamed s → KeepsRings s → PendingShort s → AllWords (apply s chs)
   words_kept h shapes named rings pending = kept_under s chs e (ShapeAndNames s) HasWords (keeps_both s) (keeps_words s rings pending) (λ b x q. (shapes b x q, named.blocks b x q)) h k

@@ -5,10 +5,10 @@ use Rattle.std.proofs.lemmas.Nat.{and_le_l}
 use Rattle.dc_base.specs.declared.capabilities.Cap.{Cap}
 use Rattle.dc_base.specs.declared.capabilities.CapKind.TheVariants as kind
 use Rattle.dc_base.specs.ControlBlocks.{ControlBlock}
+use Rattle.dc_base.specs.Words.{Each}
 use Rattle.dc_base.specs.Capabilities.{Seat, is_used, with_seat, reaches, after_revoke, after_delete, slots_of_line, without_line}
 use Rattle.dc_base.specs.Kernel.{with_mask, memory_cap}
 use Rattle.dc_base.specs.KeptByBlocks.{HasShape, HasCaps}
-use Rattle.dc_base.specs.KeptOutside.{KeepsLines}
 use Rattle.dc_base.specs.Lines.{Wire}
 use Rattle.dc_base.specs.States.{State}
 use Rattle.dc_sound.proofs.Ascending.{was_there, each_filter}
@@ -82,26 +82,30 @@ same_caps x y h parts states =
       roots = f.roots;
     }
 
-offered_rights : (s : State) → KeepsLines s → (l y rights : ℕ) (w : Wire) → slice_get s.lines l ≡ Some w → w.offer ≡ Some (y, rights) → rights ≤ 7
-offered_rights s lines l y rights w q g = subst (λ (o : Option (ℕ × ℕ)). IfSome o (λ (o : ℕ × ℕ). o.1 ≤ 7)) g (lines.rights l w q)
+-- offered rights are within their bound
+abbrev pub OffersWithin : State → Type 0
+OffersWithin s = Each s.lines (λ l w. IfSome w.offer (λ (o : ℕ × ℕ). o.1 ≤ 7))
+
+offered_rights : (s : State) → OffersWithin s → (l y rights : ℕ) (w : Wire) → slice_get s.lines l ≡ Some w → w.offer ≡ Some (y, rights) → rights ≤ 7
+offered_rights s offers l y rights w q g = subst (λ (o : Option (ℕ × ℕ)). IfSome o (λ (o : ℕ × ℕ). o.1 ≤ 7)) g (offers l w q)
 
 -- each change keeps the capabilities in form, where the shape is, and offered rights are within their bound
-pub keeps_caps : (s : State) → KeepsLines s → StepKeepsUnder s HasShape HasCaps
-keeps_caps s lines d C x y (woken _ w) shape h = same_caps x y h refl (same_shape s d C x y (woken x w)).states
-keeps_caps s lines d C x y (stands_still _ state f) shape h = same_caps x y h refl (same_shape s d C x y (stands_still x state f)).states
-keeps_caps s lines d C x y (held_up _ w f) shape h = same_caps x y h refl (same_shape s d C x y (held_up x w f)).states
-keeps_caps s lines d C x y (copied _ from slot mask cap e free within) shape h =
+pub keeps_caps : (s : State) → OffersWithin s → StepKeepsUnder s HasShape HasCaps
+keeps_caps s offers d C x y (woken _ w) shape h = same_caps x y h refl (same_shape s d C x y (woken x w)).states
+keeps_caps s offers d C x y (stands_still _ state f) shape h = same_caps x y h refl (same_shape s d C x y (stands_still x state f)).states
+keeps_caps s offers d C x y (held_up _ w f) shape h = same_caps x y h refl (same_shape s d C x y (held_up x w f)).states
+keeps_caps s offers d C x y (copied _ from slot mask cap e free within) shape h =
     let l = and_le_l cap.rights mask in
     let r : cap.rights ≤ 7 = cap_holds Limited x.parts.caps from cap h.rights e in
     put_caps x shape h (record { slot = slot; cap = with_mask mask cap; parent = Some from }) free within (omega (arith, l, r)) (cap_used x.parts.caps from cap e) y refl refl
-keeps_caps s lines d C x y (retyped _ from slot into_frame f l offset size cap e k some fits free within) shape h =
+keeps_caps s offers d C x y (retyped _ from slot into_frame f l offset size cap e k some fits free within) shape h =
     put_caps x shape h (record { slot = slot; cap = memory_cap into_frame (f + offset) size cap.rights; parent = Some from }) free within (cap_holds Limited x.parts.caps from cap h.rights e) (cap_used x.parts.caps from cap e) y refl refl
-keeps_caps s lines d C x y (deleted _ slot) shape h =
+keeps_caps s offers d C x y (deleted _ slot) shape h =
     let f = forest_of x h in fewer_caps x y refl (deleted_forest slot x.parts.caps f) (each_deleted (Within (length x.states)) slot x.parts.caps h.slots) (each_deleted Limited slot x.parts.caps h.rights)
-keeps_caps s lines d C x y (revoked _ slot) shape h =
+keeps_caps s offers d C x y (revoked _ slot) shape h =
     let f = forest_of x h in fewer_caps x y refl (revoked_forest slot x.parts.caps f) (each_revoked (Within (length x.states)) slot x.parts.caps h.slots) (each_revoked Limited slot x.parts.caps h.rights)
-keeps_caps s lines d C x y (given _ l) shape h =
+keeps_caps s offers d C x y (given _ l) shape h =
     let f = forest_of x h in fewer_caps x y refl (given_forest l x.parts.caps f) (each_given (Within (length x.states)) l x.parts.caps h.slots) (each_given Limited l x.parts.caps h.rights)
-keeps_caps s lines d C x y (claimed _ l slot z rights w q g free within allowed) shape h =
-    put_caps x shape h (record { slot = slot; cap = record { kind = kind.Line (record { 0 = l }); rights = rights }; parent = None }) free within (offered_rights s lines l z rights w q g) tt y refl refl
-keeps_caps s lines d C x y st shape h = record { ascending = h.ascending; slots = h.slots; rights = h.rights; parents = h.parents; roots = h.roots }
+keeps_caps s offers d C x y (claimed _ l slot z rights w q g free within allowed) shape h =
+    put_caps x shape h (record { slot = slot; cap = record { kind = kind.Line (record { 0 = l }); rights = rights }; parent = None }) free within (offered_rights s offers l z rights w q g) tt y refl refl
+keeps_caps s offers d C x y st shape h = record { ascending = h.ascending; slots = h.slots; rights = h.rights; parents = h.parents; roots = h.roots }

@@ -57,7 +57,7 @@ pub record SameShape (x y : ControlBlock) : Type 0 where
   pub ports : length y.parts.ports ≡ length x.parts.ports
   pub signals : length y.parts.signals ≡ length x.parts.signals
 
-length_signals : (signal : ℕ) (l : Latch) (signals : List (Option Latch)) → length (signals_after signal l signals) ≡ length signals
+pub length_signals : (signal : ℕ) (l : Latch) (signals : List (Option Latch)) → length (signals_after signal l signals) ≡ length signals
 unfolding signals_after
 length_signals signal l signals = length_change (signal_after l) signal signals
 

@@ -59,3 +59,7 @@ pub mod SoundKept
 pub mod StartPlaces
 pub mod StartState
 pub mod StartSound
+pub mod OwnNames
+pub mod Beside
+pub mod ControlSound
+pub mod ListedOnce

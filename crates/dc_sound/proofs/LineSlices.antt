@@ -102,7 +102,7 @@ module _ (s : State) (p : KeepsLines s) (shapes : AllShapes s) (caps : AllCaps s
 
   -- the capabilities at the call are in form
   call_caps : (y : ControlBlock) → Steps s d no_claim x.control y → HasCaps y
-  call_caps y st = kept_along s d no_claim HasShape HasCaps (keeps_shape s d no_claim) (keeps_caps s p d no_claim) x.control y st (shapes b x at) (caps b x at)
+  call_caps y st = kept_along s d no_claim HasShape HasCaps (keeps_shape s d no_claim) (keeps_caps s p.rights d no_claim) x.control y st (shapes b x at) (caps b x at)
 
   module _ (y : ControlBlock) (ran : ℕ) (o : Op) (l z : ℕ) (q : Parts) where
     outside_gives : (rights : ℕ) (w : Wire) → slice_get s.lines l ≡ Some w → outside_at s b (need (gives l z rights q)) ≡ line_outside w

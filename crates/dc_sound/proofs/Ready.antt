@@ -48,7 +48,7 @@ times-append d xs ys = sum_by-append (λ e. one_if (e == d)) xs ys
 one_other : (x d : ℕ) → (x ≡ d → ⊥) → one_if (x == d) ≡ 0
 one_other x d h = ap (λ (t : Bool). one_if t) (other_is x d h)
 
-one_same : (d : ℕ) → one_if (d == d) ≡ 1
+pub one_same : (d : ℕ) → one_if (d == d) ≡ 1
 one_same d = ap (λ (t : Bool). one_if t) (same_is d)
 
 -- waiters
@@ -151,7 +151,7 @@ none_by : (d x : ℕ) (xs : List ℕ) → times_in d (without d xs) ≡ 0 → (t
 none_by d x xs h true q = h
 none_by d x xs h false q = let c = times-cons d x (without d xs) in let o = ap (λ (t : Bool). one_if t) q in omega (arith, c, o, h)
 
-without_same : (d : ℕ) (xs : List ℕ) → times_in d (without d xs) ≡ 0
+pub without_same : (d : ℕ) (xs : List ℕ) → times_in d (without d xs) ≡ 0
 without_same d [] = refl
 without_same d (x ∷ xs) = none_by d x xs (without_same d xs) (x == d) refl
 
@@ -178,7 +178,7 @@ unfolding pick
 picked_in version.Rr dues xs d h = front_in xs d h
 picked_in version.Edf dues xs d h = earliest_in dues xs d h
 
-count_most : (t : Bool) → count_of t ≤ 1
+pub count_most : (t : Bool) → count_of t ≤ 1
 count_most true = omega arith
 count_most false = omega arith
 
@@ -226,7 +226,7 @@ answer_ready x d ran o n out (held_up w) h = out_ready x d (disp.Waits w) refl h
 answer_ready x d ran o n out (served w p new) h = last_ready (wake_if w (record x { parts = p })) d (if_owes (owed d) w (record x { parts = p }) h)
 
 -- how a slice stands before its call is answered
-abbrev HalfReady : ℕ → Halfway → Type 0
+abbrev pub HalfReady : ℕ → Halfway → Type 0
 HalfReady d (stopped x ran e) = HasReady x
 HalfReady d (stands x ran o call) = Owes (owed d) x
 
@@ -249,7 +249,7 @@ code_ready : (quantum time : ℕ) (x : ControlBlock) (d : ℕ) (h : Halfway) →
 code_ready quantum time x d h w None e = absurd cc
 code_ready quantum time x d h w (Some code) e = context_ready quantum time x d h w code (slice_get x.parts.contexts d) e
 
-half_ready : (quantum time : ℕ) (x : ControlBlock) (d : ℕ) (h : Halfway) → Owes (owed d) x → halfway quantum time x d ≡ Some h → HalfReady d h
+pub half_ready : (quantum time : ℕ) (x : ControlBlock) (d : ℕ) (h : Halfway) → Owes (owed d) x → halfway quantum time x d ≡ Some h → HalfReady d h
 unfolding halfway
 half_ready quantum time x d h w e = code_ready quantum time x d h w (slice_get x.parts.code d) e
 
@@ -257,13 +257,13 @@ due_ready : (v : Version) (d : ℕ) (x : ControlBlock) → HasReady x → HasRea
 due_ready version.Rr d x h = h
 due_ready version.Edf d x h = h
 
-end_ready : (c n : ℕ) (v : Version) (d : ℕ) (h : Halfway) (out : Outside) → HalfReady d h → HasReady (slice_end c n v d h out).control
+pub end_ready : (c n : ℕ) (v : Version) (d : ℕ) (h : Halfway) (out : Outside) → HalfReady d h → HasReady (slice_end c n v d h out).control
 unfolding slice_end
 end_ready c n v d (stopped x ran e) out h = due_ready v d x h
 end_ready c n v d (stands x ran o call) out h = due_ready v d (after_served x d ran o (need call) out (serve c n call out)).control (answer_ready x d ran o (need call) out (serve c n call out) h)
 
 -- a dispatcher that waited is ready again
-again_ready : (x : ControlBlock) (d : ℕ) (st : DispState) → slice_get x.states d ≡ Some st → is_ready (Some st) ≡ false → HasReady x → HasReady (ready_again d x)
+pub again_ready : (x : ControlBlock) (d : ℕ) (st : DispState) → slice_get x.states d ≡ Some st → is_ready (Some st) ≡ false → HasReady x → HasReady (ready_again d x)
 again_ready x d st q r h e = by_same (same_or_not d e)
   where
     by_same : (d ≡ e) ⊎ (d ≡ e → ⊥) → times_in e (x.ready ++ d ∷ []) ≡ count_of (is_ready (slice_get (slice_set x.states d disp.Ready) e))

@@ -273,7 +273,7 @@ module _ (s : State) (d : ℕ) (C : ℕ → Type 0) where
   due_steps version.Rr y = none y
   due_steps version.Edf y = one s d C y _ (due_grew y _ (length_change _ d y.dues))
 
-  end_steps : (c b : ℕ) (v : Version) (x : ControlBlock) (h : Halfway) → ((m : ℕ) → HalfClaims s h m → C m) → HalfFits x h → Steps s d C x (slice_end c b v d h (outside_at s b (need_of h))).control
+  pub end_steps : (c b : ℕ) (v : Version) (x : ControlBlock) (h : Halfway) → ((m : ℕ) → HalfClaims s h m → C m) → HalfFits x h → Steps s d C x (slice_end c b v d h (outside_at s b (need_of h))).control
   unfolding slice_end
   end_steps c b v x (stopped y ran e) allowed f = joined s d C x y _ f (due_steps v y)
   end_steps c b v x (stands y ran o call) allowed f =
@@ -289,7 +289,7 @@ module _ (s : State) (d : ℕ) (C : ℕ → Type 0) where
   latch_steps x signal l n w p q = further x _ _ (latched x signal l n w p q) (wake_steps _ _)
 
 -- the dispatcher that is picked is ready
-is_ready_at : (o : Option DispState) → 0 < count_of (is_ready o) → o ≡ Some disp.Ready
+pub is_ready_at : (o : Option DispState) → 0 < count_of (is_ready o) → o ≡ Some disp.Ready
 is_ready_at (Some disp.Ready) h = refl
 is_ready_at o h = absurd (omega (arith, h))
 
