@@ -10,18 +10,20 @@ use Rattle.dc_base.specs.declared.images.BlockImage.{BlockImage}
 use Rattle.dc_base.specs.declared.images.Image.{Image}
 use Rattle.dc_base.specs.declared.interrupts.Latch.{Latch}
 use Rattle.dc_base.specs.declared.kernels.Version.{Version}
+use Rattle.dc_base.specs.Ahead.{ahead}
 use Rattle.dc_base.specs.Channels.{Ring}
 use Rattle.dc_base.specs.ControlBlocks.{ControlBlock, control_start}
+use Rattle.dc_base.specs.Effects.{Context}
 use Rattle.dc_base.specs.Firing.{wake, latch_in, fire_all}
 use Rattle.dc_base.specs.KeptByBlocks.{HasShape, HasDispatchers, HasPorts, HasReady, HasTimers, HasCaps}
 use Rattle.dc_base.specs.Policies.{pick}
 use Rattle.dc_base.specs.Ports.{signals_after}
 use Rattle.dc_base.specs.Serving.{Outside}
-use Rattle.dc_base.specs.Slices.{Halfway, halfway, need_of, slice_end, without_ready}
+use Rattle.dc_base.specs.Slices.{Halfway, halfway, need_of, slice_end, with_ahead, without_ready}
 use Rattle.dc_base.specs.States.{State, idle_wire}
 use Rattle.dc_base.specs.Valid.{IsValidBlock}
 use Rattle.dc_base.specs.Wakes.{ready_again}
-use Rattle.dc_sound.specs.SoundControls.{NamesWithin, IsSoundControl, Suits}
+use Rattle.dc_sound.specs.SoundControls.{NamesWithin, IsSoundControl, IsSoundBesideReady, Suits}
 use Rattle.dc_sound.proofs.Beside.{state_of, nowhere, beside, found_beside, offers_nowhere, offers_beside}
 use Rattle.dc_sound.proofs.CapForms.{OffersWithin, keeps_caps}
 use Rattle.dc_sound.proofs.ControlSteps.{readied, Steps, further, joined, kept_along, kept_by, with_parts}
@@ -30,19 +32,24 @@ use Rattle.dc_sound.proofs.Forms.{SameShape, length_signals, keeps_shape, keeps_
 use Rattle.dc_sound.proofs.OwnNames.{own_now, keeps_own, names_own}
 use Rattle.dc_sound.proofs.Ready.{wake_owes, fire_owes, ready_owes, owes_ready, picked_in, without_owes, half_ready, end_ready, again_ready}
 use Rattle.dc_sound.proofs.StartControls.{start_ready, start_shape, start_dispatchers, start_ports, start_timers, start_caps, start_names}
-use Rattle.dc_sound.proofs.Walks.{wake_steps, fire_steps, half_steps, end_steps, again_steps, HalfClaims, is_ready_at}
+use Rattle.dc_sound.proofs.Walks.{wake_steps, fire_steps, ahead_steps, half_steps, end_steps, again_steps, HalfClaims, is_ready_at}
 
--- the changes one after another, where the ready list is known at the end
-sound_along : (s : State) → OffersWithin s → (d : ℕ) (C : ℕ → Type 0) (x y : ControlBlock) → Steps s d C x y → HasReady y → IsSoundControl x → IsSoundControl y
-sound_along s offers d C x y st ready h = record {
+-- the changes one after another, whatever the ready list
+beside_along : (s : State) → OffersWithin s → (d : ℕ) (C : ℕ → Type 0) (x y : ControlBlock) → Steps s d C x y → IsSoundControl x → IsSoundBesideReady y
+beside_along s offers d C x y st h = record {
   shape = kept_by s d C HasShape (keeps_shape s d C) x y st h.shape;
   dispatchers = kept_by s d C HasDispatchers (keeps_dispatchers s d C) x y st h.dispatchers;
   ports = kept_by s d C HasPorts (keeps_ports s d C) x y st h.ports;
-  ready = ready;
   timers = kept_by s d C HasTimers (keeps_timers s d C) x y st h.timers;
   caps = kept_along s d C HasShape HasCaps (keeps_shape s d C) (keeps_caps s offers d C) x y st h.shape h.caps;
   names = kept_by s d C NamesWithin (keeps_own s d C) x y st h.names;
 }
+
+-- the same where the ready list is known at the end
+sound_along : (s : State) → OffersWithin s → (d : ℕ) (C : ℕ → Type 0) (x y : ControlBlock) → Steps s d C x y → HasReady y → IsSoundControl x → IsSoundControl y
+sound_along s offers d C x y st ready h =
+    let b = beside_along s offers d C x y st h in
+    record { shape = b.shape; dispatchers = b.dispatchers; ports = b.ports; ready = ready; timers = b.timers; caps = b.caps; names = b.names }
 
 -- no line is claimed
 abbrev no_line : ℕ → Type 0
@@ -112,6 +119,18 @@ slice_sound time quantum c n v d x h out sound p q f =
     let steps = subst (λ o. Steps s d C x (slice_end c n v d h o).control) (found_beside n (need_of h) out f) all in
     let ready = end_ready c n v d h out (half_ready quantum time z d h (without_owes y d fired (picked_in v y.dues y.ready d p)) q) in
     sound_along s (offers_beside n (need_of h) out f) d C x (slice_end c n v d h out).control steps ready sound
+
+-- the plain part of a slice
+pub ahead_sound : (time quantum : ℕ) (v : Version) (d : ℕ) (x : ControlBlock) (code : List ℕ) (c : Context) → IsSoundControl x → pick v (fire_all time x).control.dues (fire_all time x).control.ready ≡ Some d →
+    slice_get (fire_all time x).control.parts.code d ≡ Some code → slice_get (fire_all time x).control.parts.contexts d ≡ Some c →
+    IsSoundBesideReady (with_ahead (without_ready d (fire_all time x).control) d (ahead time code quantum c (fire_all time x).control.parts.memory))
+ahead_sound time quantum v d x code c sound p q r =
+    let s = nowhere in
+    let y = (fire_all time x).control in
+    let z = without_ready d y in
+    let fired = fired_ready time x sound.ready in
+    let fits = ahead_steps s d no_line time quantum code z c (record { ready = λ all. picked_at v d y fired p; code_at = q; context_at = r }) in
+    beside_along s offers_nowhere d no_line x _ (joined s d no_line x y _ (fire_steps s d no_line time x) (further y z _ (readied y _) fits.0)) sound
 
 -- the start
 

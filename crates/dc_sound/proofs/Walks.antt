@@ -116,17 +116,17 @@ module _ (s : State) (d : ℕ) (C : ℕ → Type 0) where
   -- the plain part
 
   -- dispatcher d has this code and context, and is ready, where the ready lists of the state are
-  record IsAbout (x : ControlBlock) (code : List ℕ) (c : Context) : Type 0 where
+  pub record IsAbout (x : ControlBlock) (code : List ℕ) (c : Context) : Type 0 where
     pub ready : AllReady s → slice_get x.states d ≡ Some disp.Ready
     pub code_at : slice_get x.parts.code d ≡ Some code
     pub context_at : slice_get x.parts.contexts d ≡ Some c
 
-  abbrev EndFits : List ℕ → Context → AheadEnd → Type 0
+  abbrev pub EndFits : List ℕ → Context → AheadEnd → Type 0
   EndFits code c (at_trap n) = (0 < n) × (n ≤ 12)
   EndFits code c (at_call o i) = (w : ℕ) × (slice_get code c.place ≡ Some w) × (decode w ≡ Some i)
   EndFits code c e = ⊤
 
-  abbrev AheadFits : ControlBlock → List ℕ → Ahead → Type 0
+  abbrev pub AheadFits : ControlBlock → List ℕ → Ahead → Type 0
   AheadFits x code a = Steps s d C x (with_ahead x d a) × EndFits code a.context a.end
 
   stays : (x : ControlBlock) (code : List ℕ) (c : Context) → IsAbout x code c → Steps s d C x (with_parts x (with_context x.parts d c x.parts.memory))
@@ -149,7 +149,7 @@ module _ (s : State) (d : ℕ) (C : ℕ → Type 0) where
   ahead_by time n code x c h more (traps m) q f = (stays x code c h, f)
   ahead_by time n code x c h more (calls o i) q f = (stays x code c h, f)
 
-  ahead_steps : (time n : ℕ) (code : List ℕ) (x : ControlBlock) (c : Context) → IsAbout x code c → AheadFits x code (ahead time code n c x.parts.memory)
+  pub ahead_steps : (time n : ℕ) (code : List ℕ) (x : ControlBlock) (c : Context) → IsAbout x code c → AheadFits x code (ahead time code n c x.parts.memory)
   ahead_steps time zero code x c h = (stays x code c h, look_fits code c x.parts.memory (act time code c x.parts.memory) (acts time code c x.parts.memory))
   ahead_steps time (suc n) code x c h = ahead_by time n code x c h (λ y new k. ahead_steps time n code y new k) (act time code c x.parts.memory) refl (acts time code c x.parts.memory)
 

@@ -45,6 +45,15 @@ pub record IsSoundControl (x : ControlBlock) : Type 0 where
   pub caps : HasCaps x
   pub names : NamesWithin x
 
+-- the same while a dispatcher runs, which is out of the ready list
+pub record IsSoundBesideReady (x : ControlBlock) : Type 0 where
+  pub shape : HasShape x
+  pub dispatchers : HasDispatchers x
+  pub ports : HasPorts x
+  pub timers : HasTimers x
+  pub caps : HasCaps x
+  pub names : NamesWithin x
+
 -- the object that a call needs, or nothing where there is none; offered rights are at most 7
 abbrev pub Suits : Need → Outside → Type 0
 Suits n nothing_outside = ⊤

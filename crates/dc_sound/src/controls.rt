@@ -8,15 +8,17 @@ ghost use Rattle.dc_base.specs.declared.images.Image.{Image};
 ghost use Rattle.dc_base.specs.declared.interrupts.Latch.{Latch};
 ghost use Rattle.dc_base.specs.declared.kernels.Version.{Version};
 ghost use Rattle.dc_base.specs.Words.{lists, without};
+ghost use Rattle.dc_base.specs.Ahead.{ahead};
 ghost use Rattle.dc_base.specs.ControlBlocks.{ControlBlock, control_start};
+ghost use Rattle.dc_base.specs.Effects.{Context};
 ghost use Rattle.dc_base.specs.Firing.{fire_all, latch_in};
 ghost use Rattle.dc_base.specs.KeptByBlocks.{HasReady};
 ghost use Rattle.dc_base.specs.Policies.{pick};
 ghost use Rattle.dc_base.specs.Serving.{Outside};
-ghost use Rattle.dc_base.specs.Slices.{Halfway, halfway, need_of, slice_end, without_ready};
+ghost use Rattle.dc_base.specs.Slices.{Halfway, halfway, need_of, slice_end, with_ahead, without_ready};
 ghost use Rattle.dc_base.specs.Valid.{IsValidBlock};
 ghost use Rattle.dc_base.specs.Wakes.{ready_again};
-ghost use Rattle.dc_sound.specs.SoundControls.{IsSoundControl, Suits};
+ghost use Rattle.dc_sound.specs.SoundControls.{IsSoundControl, IsSoundBesideReady, Suits};
 
 /// Firing all due timers keeps a control block sound.
 pub fn firing_keeps_controls()
@@ -36,6 +38,11 @@ pub fn waking_keeps_controls()
 /// A whole slice of the dispatcher that is picked keeps a control block sound, whatever object its call finds.
 pub fn slices_keep_controls()
     ensures { (time quantum c n : ℕ) (v : Version) (d : ℕ) (x : ControlBlock) (h : Halfway) (out : Outside) → IsSoundControl x → pick v (fire_all time x).control.dues (fire_all time x).control.ready ≡ Some d → halfway quantum time (without_ready d (fire_all time x).control) d ≡ Some h → Suits (need_of h) out → IsSoundControl (slice_end c n v d h out).control }
+{}
+
+/// The plain part of a slice of the dispatcher that is picked keeps the rest of a control block sound.
+pub fn aheads_keep_controls()
+    ensures { (time quantum : ℕ) (v : Version) (d : ℕ) (x : ControlBlock) (code : List ℕ) (c : Context) → IsSoundControl x → pick v (fire_all time x).control.dues (fire_all time x).control.ready ≡ Some d → slice_get (fire_all time x).control.parts.code d ≡ Some code → slice_get (fire_all time x).control.parts.contexts d ≡ Some c → IsSoundBesideReady (with_ahead (without_ready d (fire_all time x).control) d (ahead time code quantum c (fire_all time x).control.parts.memory)) }
 {}
 
 /// The first control block of each valid block is sound.

@@ -26,8 +26,8 @@ ghost use Rattle.dc_base.specs.Sound.{IsSound};
 ghost use Rattle.dc_base.specs.CoreRuns.{core_run_from};
 
 pub use controls::{
-    firing_keeps_controls, latching_keeps_controls, picked_is_ready, ready_stand_once,
-    slices_keep_controls, started_controls_are_sound, waking_keeps_controls,
+    aheads_keep_controls, firing_keeps_controls, latching_keeps_controls, picked_is_ready,
+    ready_stand_once, slices_keep_controls, started_controls_are_sound, waking_keeps_controls,
 };
 
 /// A block is on a core exactly where that core's share lists it.
