@@ -5,3 +5,4 @@ pub mod Done
 pub mod Turned
 pub mod Queued
 pub mod Serves
+pub mod Contexts

@@ -1,0 +1,237 @@
+//! The dispatchers of a block, and what wakes them.
+
+ghost use Rattle.std.specs.Prelude.{◌≡◌, ◌<◌, ◌≤◌, ◌+◌, ◌^◌, ◌-◌, ◌↔◌, ℕ, Some, None, false, length, map, slice_get, slice_set, IsErr, OnOk, OnErr};
+ghost use Rattle.std.specs.Option.{option_map};
+ghost use Rattle.dc_base.specs.declared.dispatchers.DispState.TheVariants as disp;
+ghost use Rattle.dc_base.specs.declared.dispatchers.Wait.{Wait as Waits};
+ghost use Rattle.dc_base.specs.declared.interrupts.Timer.{Timer as Armed};
+ghost use Rattle.dc_base.specs.declared.kernels.Version.TheVariants.{Edf};
+ghost use Rattle.dc_base.specs.declared.numbers.DispNo.{DispNo as Disp};
+ghost use Rattle.dc_base.specs.Words.{Each, lists};
+ghost use Rattle.dc_base.specs.Ports.{latch_at, how_latched};
+ghost use Rattle.dc_base.specs.Policies.{pick};
+ghost use Rattle.dc_base.specs.Firing.{wake, latch_in, fire_all};
+ghost use Rattle.dc_base.specs.Kernel.{with_timer};
+ghost use Rattle.dc_base.specs.Slices.{with_state, ready_last, without_ready, due_after};
+ghost use Rattle.dc_base.specs.Wakes.{ready_again};
+ghost use Rattle.dc_ready.specs.Entries.{dispatchers};
+ghost use Rattle.dc_kcb.specs.Controls.{Store, control_of, due_of, state_of};
+ghost use Rattle.dc_kernel.specs.Contexts.{at_context};
+
+use arrayvec::ArrayVec;
+use dc_base::dispatchers::{DispState, Wait};
+use dc_base::interrupts::{Latch, Latched, Source};
+use dc_base::numbers::{DispNo, SignalNo};
+use dc_isa::Dispatcher;
+use dc_ports::Signal;
+use dc_ready::ReadyList;
+use dc_timers::{TimerQueue, TimersFull};
+use std::marker::Model;
+
+/// The dispatchers of a block, and what wakes them: its signals, its ready list and its timers.
+#[derive(Drop)]
+pub(crate) struct Agenda<R: ReadyList, T: TimerQueue> {
+    disps: ArrayVec<Dispatcher, 16>,
+    signals: ArrayVec<Signal, 16>,
+    ready: R,
+    timers: T,
+}
+
+impl<R: ReadyList, T: TimerQueue> Model for Agenda<R, T> {
+    ghost use Rattle.dc_kcb.specs.Controls.{Agenda};
+    ghost use Rattle.dc_kernel.specs.Queued.{AreQueued};
+
+    ghost Value = { Agenda };
+
+    ghost view = { λ a. record { disps = a.disps.items; signals = a.signals.items; ready = R.listed a.ready; timers = T.armed a.timers; next_timer = T.next a.timers } };
+
+    ghost invariant = { λ a. AreQueued a.disps.items (R.listed a.ready) };
+}
+
+impl<R: ReadyList, T: TimerQueue> Agenda<R, T> {
+    /// The dispatcher that runs next.
+    pub(crate) fn pick(&self) -> Option<DispNo>
+        ensures { option_map (λ (d : Disp). d.0) result ≡ pick R.policy (map due_of self.now.disps) (dispatchers self.now.ready) }
+    {
+        let _ = &self.disps;
+        self.ready.pick()
+    }
+
+    /// A dispatcher.
+    pub(crate) fn disp(&self, d: DispNo) -> Dispatcher
+        requires { d.0 < length self.now.disps }
+        ensures { slice_get self.now.disps d.0 ≡ Some result }
+    {
+        self.disps[d.0 as usize]
+    }
+
+    /// The dispatcher goes out of the ready list.
+    pub(crate) fn take_out(&mut self, d: DispNo)
+        ensures control { (s : Store) → control_of s self.new ≡ without_ready d.0 (control_of s self.old) }
+        ensures size { length self.new.disps ≡ length self.old.disps }
+    {
+        let _ = &self.disps;
+        self.ready.remove(d);
+    }
+
+    /// The dispatcher, which is ready and not listed, goes to the end of the ready list.
+    pub(crate) fn ready_last(&mut self, d: DispNo)
+        requires ready { slice_get (map state_of self.old.disps) d.0 ≡ Some disp.Ready }
+        requires absent { lists (dispatchers self.old.ready) d.0 ≡ false }
+        ensures control { (s : Store) → control_of s self.new ≡ ready_last d.0 (control_of s self.old) }
+        ensures size { length self.new.disps ≡ length self.old.disps }
+    {
+        let due = self.disps[d.0 as usize].due;
+        self.ready.add(d, due);
+    }
+
+    /// The dispatcher, which is not listed, is in this state.
+    pub(crate) fn set_state(&mut self, d: DispNo, state: DispState)
+        requires there { d.0 < length self.old.disps }
+        requires absent { lists (dispatchers self.old.ready) d.0 ≡ false }
+        ensures control { (s : Store) → control_of s self.new ≡ with_state d.0 state (control_of s self.old) }
+        ensures ready { self.new.ready ≡ self.old.ready }
+        ensures size { length self.new.disps ≡ length self.old.disps }
+    {
+        self.disps[d.0 as usize].state = state;
+    }
+
+    /// The due of the dispatcher, which is not listed, grows by its period.
+    pub(crate) fn add_period(&mut self, d: DispNo)
+        requires there { d.0 < length self.old.disps }
+        requires absent { lists (dispatchers self.old.ready) d.0 ≡ false }
+        requires within { Each (map due_of self.old.disps) (λ d due. due < 2 ^ 63) }
+        ensures control { (s : Store) → control_of s self.new ≡ due_after Edf d.0 (control_of s self.old) }
+        ensures ready { self.new.ready ≡ self.old.ready }
+        ensures states { map state_of self.new.disps ≡ map state_of self.old.disps }
+        ensures size { length self.new.disps ≡ length self.old.disps }
+    {
+        let period = self.disps[d.0 as usize].period;
+        self.disps[d.0 as usize].due += period as u64;
+    }
+
+    /// The dispatcher goes on with these registers at this place.
+    pub(crate) fn go_to(&mut self, d: DispNo, regs: [u32; 8], place: u32)
+        requires there { d.0 < length self.old.disps }
+        ensures control { (s : Store) → control_of s self.new ≡ at_context d.0 (record { regs = regs; place = place }) (control_of s self.old) }
+        ensures size { length self.new.disps ≡ length self.old.disps }
+    {
+        let disp = &mut self.disps[d.0 as usize];
+        disp.regs = regs;
+        disp.place = place;
+    }
+
+    /// All that wait so become ready, by ascending number.
+    pub(crate) fn wake(&mut self, w: Wait)
+        ensures control { (s : Store) → control_of s self.new ≡ wake w (control_of s self.old) }
+        ensures size { length self.new.disps ≡ length self.old.disps }
+    {
+        for i in 0..self.disps.len() {
+            if self.disps[i].state == DispState::Waits(w) {
+                self.wake_one(DispNo(i as u32));
+            }
+        }
+    }
+
+    /// A waiting dispatcher is ready again, last of all.
+    pub(crate) fn wake_one(&mut self, d: DispNo)
+        requires waits { (w : Waits) × (slice_get (map state_of self.old.disps) d.0 ≡ Some (disp.Waits w)) }
+        ensures control { (s : Store) → control_of s self.new ≡ ready_again d.0 (control_of s self.old) }
+        ensures size { length self.new.disps ≡ length self.old.disps }
+    {
+        self.set_state(d, DispState::Ready);
+        self.ready_last(d);
+    }
+
+    /// A latch comes to a signal, and wakes all that wait for it.
+    pub(crate) fn latch(&mut self, s: SignalNo, l: Latch) -> Latched
+        requires { s.0 < length self.old.signals }
+        ensures how { result ≡ how_latched (latch_at self.old.signals s.0) }
+        ensures control { (st : Store) → control_of st self.new ≡ latch_in s.0 l (control_of st self.old) }
+        ensures size { length self.new.disps ≡ length self.old.disps }
+        ensures signals { length self.new.signals ≡ length self.old.signals }
+    {
+        let how = self.signals[s.0 as usize].latch(l);
+        self.wake(Wait::Signal(s));
+        how
+    }
+
+    /// All due timers fire, and it is told how many.
+    pub(crate) fn fire(&mut self, time: u64) -> u32
+        requires named { Each self.old.timers (λ i (t : Armed). t.signal.0 < length self.old.signals) }
+        requires room { length self.old.timers ≤ 64 }
+        ensures control { (st : Store) → record { control = control_of st self.new; count = result } ≡ fire_all time (control_of st self.old) }
+        ensures size { length self.new.disps ≡ length self.old.disps }
+    {
+        let mut count = 0;
+        while let Some(t) = self.timers.due(time) {
+            let latch = Latch {
+                source: Source::Timer,
+                value: t.value,
+            };
+            self.latch(t.signal, latch);
+            count += 1;
+        }
+        count
+    }
+
+    /// The dispatcher that runs next once all due timers have fired.
+    pub(crate) fn pick_after(&self, time: u64) -> Option<DispNo>
+        requires named { Each self.now.timers (λ i (t : Armed). t.signal.0 < length self.now.signals) }
+        requires room { length self.now.timers ≤ 64 }
+        ensures { (st : Store) → let x = (fire_all time (control_of st self.now)).control in option_map (λ (d : Disp). d.0) result ≡ pick R.policy x.dues x.ready }
+    {
+        if !self.timers.is_due(time) {
+            return self.pick();
+        }
+        let mut other = self.copy();
+        other.fire(time);
+        other.pick()
+    }
+
+    /// Another with the same.
+    fn copy(&self) -> Agenda<R, T>
+        ensures { result ≡ self.now }
+    {
+        Agenda {
+            disps: copy_of(&self.disps),
+            signals: copy_of(&self.signals),
+            ready: R::restore(&self.ready.to_list()),
+            timers: T::restore(self.timers.next(), &self.timers.to_list()),
+        }
+    }
+
+    /// The latch of a signal is taken, if there is one.
+    pub(crate) fn take_latch(&mut self, s: SignalNo) -> Option<Latch>
+        requires { s.0 < length self.old.signals }
+        ensures latch { result ≡ latch_at self.old.signals s.0 }
+        ensures agenda { self.new ≡ record self.old { signals = slice_set self.old.signals s.0 None } }
+    {
+        let _ = &self.disps;
+        self.signals[s.0 as usize].take()
+    }
+
+    /// Arms a timer of a signal. None where 64 are armed.
+    pub(crate) fn arm(&mut self, deadline: u64, signal: SignalNo, value: u32) -> Result<(), TimersFull>
+        requires { self.old.next_timer < 2 ^ 32 - 1 }
+        ensures full { IsErr result ↔ (64 ≤ length self.old.timers) }
+        ensures armed { OnOk result ((st : Store) → control_of st self.new ≡ (let x = control_of st self.old in record x { parts = with_timer deadline signal.0 value x.parts })) }
+        ensures kept { OnErr result (self.new ≡ self.old) }
+        ensures size { length self.new.disps ≡ length self.old.disps }
+    {
+        let _ = &self.disps;
+        self.timers.arm(deadline, signal, value)?;
+        Ok(())
+    }
+}
+
+/// Another list of the same.
+fn copy_of<T: Copy + Default>(items: &ArrayVec<T, 16>) -> ArrayVec<T, 16>
+    ensures { result.items ≡ items.now.items }
+{
+    let mut copy = ArrayVec::new();
+    for &item in items.as_slice() {
+        copy.push(item);
+    }
+    copy
+}

@@ -1,0 +1,121 @@
+//! What a kernel is.
+
+ghost use Rattle.std.specs.Prelude.{◌≡◌, ℕ, ◌-◌, ◌^◌, ◌<◌, Bool, true, Some, length, slice_get, ℤ, pos, ◌-ℤ◌};
+ghost use Rattle.std.specs.Option.{option_map};
+ghost use Rattle.dc_base.specs.declared.dispatchers.DispState.TheVariants as disp;
+ghost use Rattle.dc_base.specs.declared.dispatchers.Wait.{Wait};
+ghost use Rattle.dc_base.specs.declared.interrupts.Timer.{Timer as Armed};
+ghost use Rattle.dc_base.specs.declared.kernels.Version.{Version as Policy};
+ghost use Rattle.dc_base.specs.Words.{Each};
+ghost use Rattle.dc_base.specs.Firing.{latch_in};
+ghost use Rattle.dc_base.specs.Named.{waits_on_channel};
+ghost use Rattle.dc_base.specs.Ports.{latch_at, how_latched};
+ghost use Rattle.dc_base.specs.Steps.{can_run};
+ghost use Rattle.dc_base.specs.Timers.{soonest};
+ghost use Rattle.dc_base.specs.Wakes.{ready_again};
+ghost use Rattle.dc_kernel.specs.Running.{Running, on_core, time_in, IsTimely, adopted, surrendered};
+ghost use Rattle.dc_kernel.specs.Outsides.{outside_seen, HasRoom, Fits};
+ghost use Rattle.dc_kernel.specs.Forwards.{IsQuantum, IsForward, IsSomeForward};
+ghost use Rattle.dc_kernel.specs.Done.{done, told};
+
+use crate::outsides::Outside;
+use dc_base::calls::{End, Need};
+use dc_base::interrupts::{Latch, Latched};
+use dc_base::kernels::Version;
+use dc_base::numbers::{BlockNo, CoreNo, DispNo, SignalNo};
+use dc_exec::Ahead;
+use dc_kcb::Kcb;
+
+/// What a slice would do up to its call: the dispatcher that would run, the plain part of the slice, and the object outside the block that its call needs.
+#[derive(Drop)]
+pub struct Forward {
+    pub disp: Option<DispNo>,
+    pub ahead: Option<Ahead>,
+    pub need: Need,
+}
+
+/// What a slice did: the dispatcher that ran, how many timers fired, how many plain instructions ran, its end, and how far it takes the core's clock.
+#[derive(Clone, Copy, Debug, PartialEq, Eq)]
+pub struct Sliced {
+    pub disp: Option<DispNo>,
+    pub fired: u32,
+    pub ran: u32,
+    pub end: End,
+    pub advance: u32,
+}
+
+/// A kernel with the block that it drives. `now` is the core's clock, from 0 to 2^63 - 1, and so is the block's time then.
+pub trait Driver: Drop + Send + Sync {
+    ghost held: { Self → Running };
+
+    ghost served: { Policy → Bool };
+
+    /// Whether the kernel is of this version.
+    fn serves(v: Version) -> bool
+        ensures { result ≡ served v };
+
+    /// The block goes on under the kernel, at its kept time.
+    fn adopt(v: Version, kcb: Kcb, now: u64) -> Self
+        requires served { served v ≡ true }
+        requires now { now < 2 ^ 63 }
+        ensures { held result ≡ adopted v kcb now };
+
+    /// The block at rest, with its time of now. Adopted and given back at once it is the same.
+    fn surrender(self, now: u64) -> Kcb
+        requires { IsTimely now (held self) }
+        ensures { result ≡ surrendered now (held self) };
+
+    fn version(&self) -> Version
+        ensures { result ≡ (held self.now).version };
+
+    /// The block's time.
+    fn time(&self, now: u64) -> u64
+        requires { IsTimely now (held self.now) }
+        ensures { result ≡ time_in now (held self.now) };
+
+    /// Whether a dispatcher is ready or a timer is due.
+    fn runnable(&self, now: u64) -> bool
+        requires { IsTimely now (held self.now) }
+        ensures { (c : ℕ) → result ≡ can_run now (on_core c (held self.now)) };
+
+    /// The core's clock at which the first timer is due: the least deadline, less how far the block's time is ahead.
+    fn earliest(&self) -> Option<i128>
+        ensures { result ≡ option_map (λ (t : Armed). pos t.deadline -ℤ (held self.now).offset) (soonest (held self.now).control.parts.timers) };
+
+    /// What a slice would do up to its call. Nothing changes.
+    fn forward(&self, now: u64, quantum: u32) -> Forward
+        requires now { IsTimely now (held self.now) }
+        requires quantum { IsQuantum quantum }
+        ensures { IsForward quantum now (held self.now) result };
+
+    /// A slice of the block, with the object that its call needs. `core` and `block` are what a bind writes into its line.
+    fn slice(
+        &mut self,
+        now: u64,
+        core: CoreNo,
+        block: BlockNo,
+        forward: &Forward,
+        outside: Outside,
+    ) -> (Sliced, Outside)
+        requires now { IsTimely now (held self.old) }
+        requires timers { (held self.old).control.parts.next_timer < 2 ^ 32 - 1 }
+        requires dues { Each (held self.old).control.dues (λ d due. due < 2 ^ 63) }
+        requires forward { IsSomeForward now (held self.old) forward.now }
+        requires outside { Fits forward.now.need outside }
+        requires room { HasRoom outside }
+        ensures done { (q : ℕ) → IsQuantum q → IsForward q now (held self.old) forward.now → Some (told (held self.new).control result.0 (outside_seen result.1)) ≡ done (λ n. outside_seen outside) q core.0 block.0 now (held self.old) }
+        ensures kind { Fits forward.now.need result.1 }
+        ensures offset { (held self.new).offset ≡ (held self.old).offset }
+        ensures version { (held self.new).version ≡ (held self.old).version };
+
+    /// A latch comes to a signal of the block, and wakes all that wait for it.
+    fn intake(&mut self, s: SignalNo, l: Latch) -> Latched
+        requires { s.0 < length (held self.old).control.parts.signals }
+        ensures how { result ≡ how_latched (latch_at (held self.old).control.parts.signals s.0) }
+        ensures block { held self.new ≡ record (held self.old) { control = latch_in s.0 l (held self.old).control } };
+
+    /// A dispatcher that waits on a channel is ready again, last of all.
+    fn wake(&mut self, d: DispNo)
+        requires { option_map waits_on_channel (slice_get (held self.old).control.states d.0) ≡ Some true }
+        ensures { held self.new ≡ record (held self.old) { control = ready_again d.0 (held self.old).control } };
+}

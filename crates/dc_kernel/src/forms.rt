@@ -1,0 +1,31 @@
+//! A block as a kernel works on it.
+
+use crate::agendas::Agenda;
+use arrayvec::ArrayVec;
+use dc_caps::Table;
+use dc_ports::Port;
+use dc_ready::ReadyList;
+use dc_timers::TimerQueue;
+use std::marker::Model;
+
+/// A block under a kernel, without its clock.
+#[derive(Drop)]
+pub(crate) struct Form<R: ReadyList, T: TimerQueue> {
+    pub(crate) memory: Vec<u32>,
+    pub(crate) code: Vec<Vec<u32>>,
+    pub(crate) table: Table,
+    pub(crate) ports: ArrayVec<Port, 16>,
+    pub(crate) agenda: Agenda<R, T>,
+}
+
+impl<R: ReadyList, T: TimerQueue> Model for Form<R, T> {
+    ghost use Rattle.std.specs.Prelude.{◌≡◌, map, length};
+    ghost use Rattle.dc_base.specs.ControlBlocks.{ControlBlock};
+    ghost use Rattle.dc_kcb.specs.Controls.{control_of};
+
+    ghost Value = { ControlBlock };
+
+    ghost view = { λ f. control_of (record { memory = f.memory.items; code = map (λ v. v.items) f.code.items; caps = f.table.set; ports = f.ports.items }) f.agenda };
+
+    ghost invariant = { λ f. f.table.disps ≡ length f.agenda.disps };
+}

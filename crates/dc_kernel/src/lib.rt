@@ -1,0 +1,11 @@
+//! What a kernel is, and one kernel over any ready list and any queue of timers.
+#![tactic(auto)]
+
+mod agendas;
+mod answers;
+mod drivers;
+mod forms;
+mod outsides;
+
+pub use drivers::{Driver, Forward, Sliced};
+pub use outsides::Outside;
