@@ -1,7 +1,13 @@
 //! A block as a kernel works on it.
 
+ghost use Rattle.std.specs.Prelude.{◌≡◌, Some, slice_get};
+ghost use Rattle.dc_base.specs.Effects.{Context};
+ghost use Rattle.dc_base.specs.Kernel.{with_next_place};
+ghost use Rattle.dc_kernel.specs.Serves.{IsRunning};
+
 use crate::agendas::Agenda;
 use arrayvec::ArrayVec;
+use dc_base::numbers::DispNo;
 use dc_caps::Table;
 use dc_ports::Port;
 use dc_ready::ReadyList;
@@ -28,4 +34,15 @@ impl<R: ReadyList, T: TimerQueue> Model for Form<R, T> {
     ghost view = { λ f. control_of (record { memory = f.memory.items; code = map (λ v. v.items) f.code.items; caps = f.table.set; ports = f.ports.items }) f.agenda };
 
     ghost invariant = { λ f. f.table.disps ≡ length f.agenda.disps };
+}
+
+impl<R: ReadyList, T: TimerQueue> Form<R, T> {
+    /// The place of the dispatcher moves on by one.
+    pub(crate) fn go_on(&mut self, d: DispNo)
+        requires { IsRunning d.0 self.old }
+        ensures { (x : Context) → slice_get self.old.parts.contexts d.0 ≡ Some x → self.new ≡ record self.old { parts = with_next_place d.0 x self.old.parts } }
+    {
+        let disp = self.agenda.disp(d);
+        self.agenda.go_to(d, disp.regs, disp.place + 1);
+    }
 }

@@ -3,6 +3,7 @@
 
 mod agendas;
 mod answers;
+mod calls;
 mod drivers;
 mod forms;
 mod outsides;

@@ -1,0 +1,10 @@
+//! The kernel calls.
+
+mod channels;
+mod copies;
+mod lines;
+mod ports;
+mod prints;
+mod removals;
+mod retypes;
+mod signals;
