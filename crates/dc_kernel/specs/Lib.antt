@@ -6,3 +6,5 @@ pub mod Turned
 pub mod Queued
 pub mod Serves
 pub mod Contexts
+pub mod Kernels
+pub mod Slices

@@ -1,6 +1,6 @@
 //! The dispatchers of a block, and what wakes them.
 
-ghost use Rattle.std.specs.Prelude.{◌≡◌, ◌<◌, ◌≤◌, ◌+◌, ◌^◌, ◌-◌, ◌↔◌, ℕ, Some, None, false, length, map, slice_get, slice_set, IsErr, OnOk, OnErr};
+ghost use Rattle.std.specs.Prelude.{◌≡◌, ◌<◌, ◌≤◌, ◌||◌, nat_lt, ◌+◌, ◌^◌, ◌-◌, ◌↔◌, ℕ, Some, None, false, length, map, slice_get, slice_set, IsErr, OnOk, OnErr};
 ghost use Rattle.std.specs.Option.{option_map};
 ghost use Rattle.dc_base.specs.declared.dispatchers.DispState.TheVariants as disp;
 ghost use Rattle.dc_base.specs.declared.dispatchers.Wait.{Wait as Waits};
@@ -13,6 +13,7 @@ ghost use Rattle.dc_base.specs.Policies.{pick};
 ghost use Rattle.dc_base.specs.Firing.{wake, latch_in, fire_all};
 ghost use Rattle.dc_base.specs.Kernel.{with_timer};
 ghost use Rattle.dc_base.specs.Slices.{with_state, ready_last, without_ready, due_after};
+ghost use Rattle.dc_base.specs.Timers.{is_due, soonest};
 ghost use Rattle.dc_base.specs.Wakes.{ready_again};
 ghost use Rattle.dc_ready.specs.Entries.{dispatchers};
 ghost use Rattle.dc_kcb.specs.Controls.{Store, control_of, due_of, state_of};
@@ -31,10 +32,10 @@ use std::marker::Model;
 /// The dispatchers of a block, and what wakes them: its signals, its ready list and its timers.
 #[derive(Drop)]
 pub(crate) struct Agenda<R: ReadyList, T: TimerQueue> {
-    disps: ArrayVec<Dispatcher, 16>,
-    signals: ArrayVec<Signal, 16>,
-    ready: R,
-    timers: T,
+    pub(crate) disps: ArrayVec<Dispatcher, 16>,
+    pub(crate) signals: ArrayVec<Signal, 16>,
+    pub(crate) ready: R,
+    pub(crate) timers: T,
 }
 
 impl<R: ReadyList, T: TimerQueue> Model for Agenda<R, T> {
@@ -199,6 +200,22 @@ impl<R: ReadyList, T: TimerQueue> Agenda<R, T> {
             ready: R::restore(&self.ready.to_list()),
             timers: T::restore(self.timers.next(), &self.timers.to_list()),
         }
+    }
+
+    /// Whether a dispatcher is ready or a timer is due.
+    pub(crate) fn can_run(&self, time: u64) -> bool
+        ensures { result ≡ (nat_lt 0 (length self.now.ready) || is_due time self.now.timers) }
+    {
+        let _ = &self.disps;
+        self.ready.pick().is_some() || self.timers.is_due(time)
+    }
+
+    /// The least deadline of a timer.
+    pub(crate) fn deadline(&self) -> Option<u64>
+        ensures { result ≡ option_map (λ (t : Armed). t.deadline) (soonest self.now.timers) }
+    {
+        let _ = &self.disps;
+        self.timers.earliest()
     }
 
     /// The latch of a signal is taken, if there is one.

@@ -3,6 +3,7 @@
 mod channels;
 mod copies;
 mod lines;
+mod needs;
 mod ports;
 mod prints;
 mod removals;

@@ -6,7 +6,12 @@ mod answers;
 mod calls;
 mod drivers;
 mod forms;
+mod handovers;
+mod kernels;
 mod outsides;
+mod serving;
+mod slices;
 
 pub use drivers::{Driver, Forward, Sliced};
+pub use kernels::Kernel;
 pub use outsides::Outside;

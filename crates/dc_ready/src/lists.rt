@@ -11,7 +11,7 @@ use dc_base::kernels::Version;
 use dc_base::numbers::DispNo;
 
 /// The ready dispatchers of a block with their dues in the block's time, each once, in order of arrival. Their numbers are below 16, so there are at most 16.
-pub trait ReadyList: Sized + Drop + Send + Sync {
+pub trait ReadyList: Sized + Drop {
     ghost listed: { Self → List (ℕ × ℕ) };
     // whose choice `pick` is
     ghost policy: { Version };

@@ -13,7 +13,7 @@ use dc_base::numbers::SignalNo;
 pub struct TimersFull;
 
 /// The armed timers of a block, by ascending number, and the next number. At most 64 are armed. Deadlines are in the block's time.
-pub trait TimerQueue: Sized + Drop + Send + Sync {
+pub trait TimerQueue: Sized + Drop {
     ghost armed: { Self → List Timer };
 
     ghost next: { Self → ℕ };

@@ -1,0 +1,158 @@
+//! One kernel over any ready list and any queue of timers.
+
+ghost use Rattle.std.specs.Prelude.{◌≡◌, ◌<◌, ◌≤◌, ◌^◌, ℕ, List, Some, length, slice_get};
+ghost use Rattle.dc_base.specs.declared.calls.Need.{Need as Needed};
+ghost use Rattle.dc_base.specs.Kernel.{call_of};
+ghost use Rattle.dc_base.specs.Parts.{Parts as Fields};
+ghost use Rattle.dc_kernel.specs.Slices.{OffersWithin};
+
+use crate::drivers::{Driver, Forward, Sliced};
+use crate::forms::Form;
+use crate::outsides::Outside;
+use dc_base::calls::{End, Need};
+use dc_base::dispatchers::Wait;
+use dc_base::interrupts::{Latch, Latched};
+use dc_base::kernels::Version;
+use dc_base::numbers::{BlockNo, CoreNo, DispNo, SignalNo};
+use dc_exec::{Ahead, AheadEnd};
+use dc_kcb::Kcb;
+use dc_ready::ReadyList;
+use dc_sound::{
+    aheads_keep_controls, firing_keeps_controls, latching_keeps_controls, picked_is_ready,
+    slices_keep_controls, waking_keeps_controls,
+};
+use dc_timers::{Clock, TimerQueue};
+use std::marker::Model;
+
+/// A kernel over a ready list, which tells its version, and a queue of timers. Contracts see the block that it drives, how far the block's time is ahead, and the version.
+#[derive(Drop)]
+pub struct Kernel<R: ReadyList, T: TimerQueue> {
+    form: Form<R, T>,
+    clock: Clock,
+}
+
+impl<R: ReadyList, T: TimerQueue> Model for Kernel<R, T> {
+    ghost use Rattle.dc_kernel.specs.Running.{Running};
+    ghost use Rattle.dc_kernel.specs.Kernels.{IsKept};
+
+    ghost Value = { Running };
+
+    ghost view = { λ k. record { control = k.form; offset = k.clock; version = R.policy } };
+
+    ghost invariant = { λ k. IsKept k.form k.clock };
+}
+
+/// The rights of an offered line are at most 7.
+fn offers_are_within(outside: &Outside)
+    ensures { OffersWithin outside.now }
+{
+    if let Outside::Line(line) = outside {
+        let _ = line.offered();
+    }
+}
+
+impl<R: ReadyList + Send + Sync, T: TimerQueue + Send + Sync> Driver for Kernel<R, T> {
+    ghost use Rattle.dc_kernel.specs.Kernels.{is_version};
+
+    ghost held = { λ k. k };
+
+    ghost served = { λ v. is_version v R.policy };
+
+    fn serves(v: Version) -> bool {
+        v == R::version()
+    }
+
+    fn adopt(v: Version, kcb: Kcb, now: u64) -> Kernel<R, T> {
+        let _ = v;
+        let parts = kcb.take_apart();
+        let clock = Clock::adopted(parts.time, now);
+        Kernel {
+            form: Form::of(parts),
+            clock,
+        }
+    }
+
+    fn surrender(self, now: u64) -> Kcb {
+        let time = self.clock.time(now);
+        Kcb::put_together(self.form.into_parts(time))
+    }
+
+    fn version(&self) -> Version {
+        let _ = &self.form;
+        R::version()
+    }
+
+    fn time(&self, now: u64) -> u64 {
+        self.clock.time(now)
+    }
+
+    fn runnable(&self, now: u64) -> bool {
+        self.form.agenda.can_run(self.clock.time(now))
+    }
+
+    fn earliest(&self) -> Option<i128> {
+        let deadline = self.form.agenda.deadline()?;
+        Some(deadline as i128 - self.clock.offset())
+    }
+
+    fn forward(&self, now: u64, quantum: u32) -> Forward {
+        firing_keeps_controls();
+        picked_is_ready();
+        let time = self.clock.time(now);
+        let Some(d) = self.form.pick_after(time) else {
+            return Forward {
+                disp: None,
+                ahead: None,
+                need: Need::Nothing,
+            };
+        };
+        let ahead = self.form.ahead(d, time, quantum);
+        let need = self.form.need_after(d, &ahead);
+        Forward {
+            disp: Some(d),
+            ahead: Some(ahead),
+            need,
+        }
+    }
+
+    fn slice(
+        &mut self,
+        now: u64,
+        core: CoreNo,
+        block: BlockNo,
+        forward: &Forward,
+        outside: Outside,
+    ) -> (Sliced, Outside) {
+        firing_keeps_controls();
+        picked_is_ready();
+        aheads_keep_controls();
+        slices_keep_controls();
+        offers_are_within(&outside);
+        let mut outside = outside;
+        let time = self.clock.time(now);
+        let fired = self.form.fire(time);
+        let sliced = match (forward.disp, &forward.ahead) {
+            (Some(d), Some(ahead)) => {
+                self.form.run(d, fired, ahead, time, core, block, &mut outside)
+            }
+            _ => Sliced {
+                disp: None,
+                fired,
+                ran: 0,
+                end: End::Empty,
+                advance: 1,
+            },
+        };
+        (sliced, outside)
+    }
+
+    fn intake(&mut self, s: SignalNo, l: Latch) -> Latched {
+        latching_keeps_controls();
+        self.form.latch(s, l)
+    }
+
+    fn wake(&mut self, d: DispNo) {
+        waking_keeps_controls();
+        self.form.wake_one(d);
+    }
+}
