@@ -1,0 +1,2 @@
+pub mod AgendaWrites
+pub mod AgendaQueues
