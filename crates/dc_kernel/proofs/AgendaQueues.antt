@@ -6,6 +6,7 @@ use Rattle.std.proofs.lemmas.Option.{none-some, same_Some}
 use Rattle.std.proofs.lemmas.List.{map-set}
 use Rattle.dc_base.specs.declared.dispatchers.DispState.{DispState}
 use Rattle.dc_base.specs.declared.dispatchers.DispState.TheVariants as disp
+use Rattle.dc_base.specs.declared.dispatchers.Wait.{Wait}
 use Rattle.dc_base.specs.Words.{Each, lists, without}
 use Rattle.dc_base.proofs.EachLaws.{each-append}
 use Rattle.dc_isa.specs.declared.dispatchers.Dispatcher.{Dispatcher}
@@ -33,6 +34,10 @@ others : (d : ℕ) (es : List (ℕ × ℕ)) → lists (dispatchers es) d ≡ fal
 others d [] h i x e = absurd (none-some x e)
 others d (y ∷ ys) h zero x e = let p = or_parts (y.0 == d) (lists (dispatchers ys) d) h in subst (λ (z : ℕ × ℕ). (z.0 == d) ≡ false) (same_Some y x e) p.0
 others d (y ∷ ys) h (suc i) x e = let p = or_parts (y.0 == d) (lists (dispatchers ys) d) h in others d ys p.1 i x e
+
+unlisted : (d : ℕ) (es : List (ℕ × ℕ)) → Each es (λ i (e : ℕ × ℕ). (e.0 == d) ≡ false) → lists (dispatchers es) d ≡ false
+unlisted d [] h = refl
+unlisted d (e ∷ es) h = or_from (e.0 == d) (lists (dispatchers es) d) (h 0 e refl) (unlisted d es (λ i x q. h (suc i) x q))
 
 module _ (ds : List Dispatcher) (ready : List (ℕ × ℕ)) (queued : AreQueued ds ready) where
   pub queued-without : (d : ℕ) → AreQueued ds (without_disp d ready)
@@ -72,3 +77,7 @@ module _ (ds : List Dispatcher) (ready : List (ℕ × ℕ)) (queued : AreQueued 
     dues = subst (λ l. Each ready (λ i (e : ℕ × ℕ). slice_get l e.0 ≡ Some e.1)) (sym (map-kept due_of ds d x blank (due _))) queued.dues;
     states = subst (λ l. Each ready (λ i (e : ℕ × ℕ). slice_get l e.0 ≡ Some disp.Ready)) (sym (map-kept state_of ds d x blank (state _))) queued.states;
   }
+
+  -- who waits is not listed
+  pub waits-unlisted : (d : ℕ) (w : Wait) → slice_get (map state_of ds) d ≡ Some (disp.Waits w) → lists (dispatchers ready) d ≡ false
+  waits-unlisted d w waits = unlisted d ready (λ i e there. ne_eqb e.0 d (λ is. let r : slice_get (map state_of ds) d ≡ Some disp.Ready = ap (slice_get (map state_of ds)) (sym is) ∙ queued.states i e there in absurd cc))
