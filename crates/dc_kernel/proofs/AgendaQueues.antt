@@ -14,7 +14,7 @@ use Rattle.dc_ready.specs.Entries.{dispatchers, without_disp, AreOnceBelow, IsRe
 use Rattle.dc_ready.proofs.Listed.{once-push, once-without}
 use Rattle.dc_sound.proofs.Ascending.{each_filter}
 use Rattle.dc_sound.proofs.Elements.{set_other}
-use Rattle.dc_kcb.specs.Controls.{state_of, due_of}
+use Rattle.dc_kcb.specs.Controls.{Agenda, state_of, due_of}
 use Rattle.dc_kernel.specs.Queued.{AreQueued}
 use Rattle.dc_kernel.proofs.AgendaWrites.{map-kept, blank, written}
 
@@ -81,3 +81,9 @@ module _ (ds : List Dispatcher) (ready : List (ℕ × ℕ)) (queued : AreQueued 
   -- who waits is not listed
   pub waits-unlisted : (d : ℕ) (w : Wait) → slice_get (map state_of ds) d ≡ Some (disp.Waits w) → lists (dispatchers ready) d ≡ false
   waits-unlisted d w waits = unlisted d ready (λ i e there. ne_eqb e.0 d (λ is. let r : slice_get (map state_of ds) d ≡ Some disp.Ready = ap (slice_get (map state_of ds)) (sym is) ∙ queued.states i e there in absurd cc))
+
+-- the same of an agenda as its contracts see it
+pub waits-absent : (inside now : Agenda) → inside ≡ now → AreQueued inside.disps inside.ready → (d : ℕ) (w : Wait) → slice_get (map state_of now.disps) d ≡ Some (disp.Waits w) → lists (dispatchers now.ready) d ≡ false
+waits-absent inside now same queued d w waits =
+    ap (λ (a : Agenda). lists (dispatchers a.ready) d) (sym same)
+    ∙ waits-unlisted inside.disps inside.ready queued d w (ap (λ (a : Agenda). slice_get (map state_of a.disps) d) same ∙ waits)
