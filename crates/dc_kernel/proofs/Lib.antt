@@ -1,1 +1,3 @@
 pub mod ListedReady
+pub mod AgendaWrites
+pub mod AgendaQueues

@@ -140,6 +140,7 @@ impl<R: ReadyList, T: TimerQueue> Agenda<R, T> {
         ensures control { (s : Store) → control_of s self.new ≡ ready_again d.0 (control_of s self.old) }
         ensures size { length self.new.disps ≡ length self.old.disps }
     {
+        let _ = &self.disps;
         self.set_state(d, DispState::Ready);
         self.ready_last(d);
     }
