@@ -1,1 +1,4 @@
-pub mod Contexts
+pub mod CallContexts
+pub mod CallResults
+pub mod CallServed
+pub mod CallPrints

@@ -1,5 +1,5 @@
 use Rattle.std.proofs.Common.{arith}
-use Rattle.dc_kernel.proofs.Contexts.{disp_within, place_within, goes_on}
+use Rattle.dc_kernel.proofs.CallContexts.{disp_within, place_within, goes_on}
 use Rattle.dc_kernel.proofs.forms.Form.go_on.Goals as goal
 
 pub overflow_add-disp : goal.overflow_add-disp
