@@ -10,5 +10,5 @@ mod table;
 #[cfg(test)]
 mod tests;
 
-pub use faults::CapFault;
+pub use faults::{CapFault, trap};
 pub use table::Table;

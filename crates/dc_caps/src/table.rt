@@ -60,9 +60,10 @@ impl Table {
         }
     }
 
-    /// How many dispatchers there are.
+    /// How many dispatchers there are, at most 16.
     pub fn disps(&self) -> u32
-        ensures { result ≡ self.now.disps }
+        ensures value { result ≡ self.now.disps }
+        ensures most { result ≤ 16 }
     {
         self.disps
     }

@@ -1,4 +1,4 @@
-ghost use Rattle.std.specs.Prelude.{◌≡◌, ℕ, ◌+◌, ◌-◌, ◌^◌, ◌<◌, ◌≤◌, Some, None, IsSome, IsNone, IfSome, IfNone, OnSome};
+ghost use Rattle.std.specs.Prelude.{◌≡◌, ℕ, ◌+◌, ◌-◌, ◌^◌, ◌<◌, ◌≤◌, Some, None, IsSome, IfSome, IfNone, OnSome};
 ghost use Rattle.dc_base.specs.Lines.{how_raised, wire_after_raise, wire_after_intake, rights_over};
 ghost use Rattle.dc_base.specs.States.{idle_wire};
 ghost use Rattle.dc_lines.specs.Wires.{binding_of, route_of, offer_of, tally_of, AddUp};
@@ -99,7 +99,6 @@ impl Line {
 
     /// Offers the line over a channel with rights of at most 7, and ends its binding. Its route and a pending raise stay.
     pub fn give(&mut self, x: ChanNo, rights: u8)
-        requires unoffered { IsNone self.old.offer }
         requires rights { rights ≤ 7 }
         ensures { self.new ≡ record self.old { bound = None; offer = Some (x.0, rights) } }
     {
@@ -110,6 +109,7 @@ impl Line {
     /// Ends an offer over the channel, and answers its rights. None where the line is not offered over it.
     pub fn claim(&mut self, x: ChanNo) -> Option<u8>
         ensures rights { result ≡ rights_over x.0 self.old.offer }
+        ensures within { IfSome result (λ r. r ≤ 7) }
         ensures claimed { OnSome result (self.new ≡ record self.old { offer = None }) }
         ensures kept { IfNone result (self.new ≡ self.old) }
     {
