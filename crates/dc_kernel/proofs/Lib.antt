@@ -5,3 +5,7 @@ pub mod CallContexts
 pub mod CallResults
 pub mod CallServed
 pub mod CallPrints
+pub mod SliceParts
+pub mod SliceLooks
+pub mod WokenLists
+pub mod ServeEnds

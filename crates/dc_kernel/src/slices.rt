@@ -12,7 +12,7 @@ ghost use Rattle.dc_base.specs.Words.{Each, lists};
 ghost use Rattle.dc_base.specs.Ahead as plain;
 ghost use Rattle.dc_base.specs.Effects.{Context};
 ghost use Rattle.dc_base.specs.ControlBlocks.{ControlBlock};
-ghost use Rattle.dc_base.specs.Firing.{fire_all, latch_in};
+ghost use Rattle.dc_base.specs.Firing.{fire_all, latch_in, wake_if};
 ghost use Rattle.dc_base.specs.Policies.{pick};
 ghost use Rattle.dc_base.specs.Ports.{latch_at, how_latched};
 ghost use Rattle.dc_base.specs.Wakes.{ready_again};
@@ -32,7 +32,7 @@ use crate::drivers::Sliced;
 use crate::forms::Form;
 use crate::outsides::Outside;
 use dc_base::calls::{End, Need};
-use dc_base::dispatchers::DispState;
+use dc_base::dispatchers::{DispState, Wait};
 use dc_base::interrupts::{Latch, Latched};
 use dc_base::kernels::Version;
 use dc_base::numbers::{BlockNo, CoreNo, DispNo, SignalNo};
@@ -120,6 +120,15 @@ impl<R: ReadyList, T: TimerQueue> Form<R, T> {
         )
     }
 
+    /// All that wait so become ready, if any.
+    fn wake_if(&mut self, wakes: Option<Wait>)
+        ensures { self.new ≡ wake_if wakes self.old }
+    {
+        if let Some(w) = wakes {
+            self.agenda.wake(w);
+        }
+    }
+
     /// In the second version the due of the dispatcher, which is not listed, grows by its period.
     fn grow_due(&mut self, d: DispNo)
         requires there { d.0 < length self.old.states }
@@ -127,8 +136,9 @@ impl<R: ReadyList, T: TimerQueue> Form<R, T> {
         requires dues { Each self.old.dues (λ d due. due < 2 ^ 63) }
         ensures { self.new ≡ due_after R.policy d.0 self.old }
     {
-        if R::version() == Version::Edf {
-            self.agenda.add_period(d);
+        match R::version() {
+            Version::Rr => {}
+            Version::Edf => self.agenda.add_period(d),
         }
     }
 
@@ -241,9 +251,7 @@ impl<R: ReadyList, T: TimerQueue> Form<R, T> {
                 stopped(d, fired, ran, End::Hold(op))
             }
             Answer::Made(wakes) => {
-                if let Some(w) = wakes {
-                    self.agenda.wake(w);
-                }
+                self.wake_if(wakes);
                 self.stay_ready(d);
                 Sliced {
                     disp: Some(d),

@@ -1,0 +1,23 @@
+-- What a slice looks up.
+use Rattle.std.proofs.Common.{◌≡◌, ℕ, ◌<◌, List, map, length, Some, ap, sym, ◌∙◌, subst}
+use Rattle.std.specs.Prelude.{slice_get, slice_index_or}
+use Rattle.std.specs.Option.{option_map}
+use Rattle.std.proofs.lemmas.List.{length-map}
+use Rattle.std.proofs.lemmas.Option.{slice_get-map, slice_get-get_or}
+use Rattle.dc_base.specs.Ahead as plain
+use Rattle.dc_base.specs.Effects.{Context}
+use Rattle.dc_exec.specs.declared.ends.Ahead.{Ahead}
+use Rattle.dc_exec.specs.Slices.{ahead_seen}
+
+-- what an index gives is at that place
+pub found : {A B : Type 0} (f : A → B) (xs : List A) (ys : List B) (i : ℕ) (v : A) → map f xs ≡ ys → i < length ys → v ≡ slice_index_or xs i v → slice_get ys i ≡ Some (f v)
+found {B = B} f xs ys i v same within e =
+    let inside : i < length xs = subst (λ n. i < n) (length-map _ _) (subst (λ (zs : List B). i < length zs) (sym same) within) in
+    ap (λ zs. slice_get zs i) (sym same) ∙ (slice_get-map f xs i ∙ ap (option_map f) (slice_get-get_or xs i v inside ∙ ap Some (sym e)))
+
+-- the plain part of the same code, context and memory
+pub ahead_of_same : (time quantum : ℕ) (a : Ahead) (m m' code code' : List ℕ) (x x' : Context) → m ≡ m' → code ≡ code' → x ≡ x' → ahead_seen m a ≡ plain.ahead time code quantum x m → ahead_seen m' a ≡ plain.ahead time code' quantum x' m'
+ahead_of_same time quantum a m m' code code' x x' p q r e =
+    subst (λ m. ahead_seen m a ≡ plain.ahead time code' quantum x' m) p
+    (subst (λ code. ahead_seen m a ≡ plain.ahead time code quantum x' m) q
+    (subst (λ x. ahead_seen m a ≡ plain.ahead time code quantum x m) r e))
