@@ -1,2 +1,3 @@
 pub mod AgendaWrites
 pub mod AgendaQueues
+pub mod AgendaWakes
