@@ -93,3 +93,8 @@ module _ (i : ℕ) (w : Wait) (b : ControlBlock) (s : DispState) (here : slice_g
           ∙ append_assoc b.ready (i ∷ []) (waiters_from (i + 1) w rest)
           ∙ ap (λ l. b.ready ++ l) (one ∙ ap (waiters_from i w) (sym begins)) in
       λ j. record b { states = states j; ready = ready j }
+
+-- one step of the wakes: the dispatcher at i wakes where it waits so, and else stays
+pub woken-step : (i : ℕ) (w : Wait) (b : ControlBlock) (t : Bool) → i < length b.states → waits_at w b.states i ≡ t → rest_woken (i + 1) w (cond t (ready_again i b) b) ≡ rest_woken i w b
+woken-step i w b true lt e = let k = waiting w b.states i true lt e in woken-more i w b k.state k.here k.waits
+woken-step i w b false lt e = let k = waiting w b.states i false lt e in woken-skip i w b k.state k.here k.waits
