@@ -118,3 +118,6 @@ module _ (ds : List Dispatcher) (d : ℕ) where
 
   pub due-below : (zs : List Dispatcher) → zs ≡ ds → d < length ds → Each (map due_of ds) (λ i due. due < 2 ^ 63) → (slice_index_or zs d blank).due < 2 ^ 63
   due-below zs e lt below = below d _ (due-there zs e lt)
+
+  pub state-there : (zs : List Dispatcher) → zs ≡ ds → d < length ds → slice_get (map state_of ds) d ≡ Some (slice_index_or zs d blank).state
+  state-there zs e lt = slice_get-map state_of ds d ∙ ap (option_map state_of) (slice_get-get_or ds d blank lt) ∙ ap (λ l. Some (slice_index_or l d blank).state) (sym e)

@@ -9,3 +9,4 @@ pub mod SliceParts
 pub mod SliceLooks
 pub mod WokenLists
 pub mod ServeEnds
+pub mod AgendaWakes

@@ -1,7 +1,7 @@
 //! The dispatchers of a block, and what wakes them.
 
 ghost use Rattle.std.specs.Prelude.{◌≡◌, ◌<◌, ◌≤◌, ◌||◌, nat_lt, ◌+◌, ◌^◌, ◌-◌, ◌↔◌, ℕ, Some, None, false, length, map, slice_get, slice_set, IsErr, OnOk, OnErr};
-ghost use Rattle.std.specs.Option.{option_map};
+ghost use Rattle.std.specs.Option.{option_map, option_map_or};
 ghost use Rattle.dc_base.specs.declared.dispatchers.DispState.TheVariants as disp;
 ghost use Rattle.dc_base.specs.declared.dispatchers.Wait.{Wait as Waits};
 ghost use Rattle.dc_base.specs.declared.interrupts.Timer.{Timer as Armed};
@@ -10,7 +10,7 @@ ghost use Rattle.dc_base.specs.declared.numbers.DispNo.{DispNo as Disp};
 ghost use Rattle.dc_base.specs.Words.{Each, lists};
 ghost use Rattle.dc_base.specs.Ports.{latch_at, how_latched};
 ghost use Rattle.dc_base.specs.Policies.{pick};
-ghost use Rattle.dc_base.specs.Firing.{wake, latch_in, fire_all};
+ghost use Rattle.dc_base.specs.Firing.{waits_so, wake, latch_in, fire_all};
 ghost use Rattle.dc_base.specs.Kernel.{with_timer};
 ghost use Rattle.dc_base.specs.Slices.{with_state, ready_last, without_ready, due_after};
 ghost use Rattle.dc_base.specs.Timers.{is_due, soonest};
@@ -127,11 +127,27 @@ impl<R: ReadyList, T: TimerQueue> Agenda<R, T> {
         ensures control { (s : Store) → control_of s self.new ≡ wake w (control_of s self.old) }
         ensures size { length self.new.disps ≡ length self.old.disps }
     {
-        for i in 0..self.disps.len() {
-            if self.disps[i].state == DispState::Waits(w) {
-                self.wake_one(DispNo(i as u32));
+        for i in 0..self.count() {
+            let d = DispNo(i);
+            if self.waits(d, w) {
+                self.wake_one(d);
             }
         }
+    }
+
+    /// How many dispatchers there are.
+    fn count(&self) -> u32
+        ensures { result ≡ length self.now.disps }
+    {
+        self.disps.len() as u32
+    }
+
+    /// Whether the dispatcher waits so.
+    fn waits(&self, d: DispNo, w: Wait) -> bool
+        requires { d.0 < length self.now.disps }
+        ensures { result ≡ option_map_or (waits_so w) (slice_get (map state_of self.now.disps) d.0) false }
+    {
+        is_waiting(self.disps[d.0 as usize].state, w)
     }
 
     /// A waiting dispatcher is ready again, last of all.
@@ -241,6 +257,13 @@ impl<R: ReadyList, T: TimerQueue> Agenda<R, T> {
         self.timers.arm(deadline, signal, value)?;
         Ok(())
     }
+}
+
+/// Whether it is the state of a dispatcher that waits so.
+fn is_waiting(state: DispState, w: Wait) -> bool
+    ensures { result ≡ waits_so w state }
+{
+    state == DispState::Waits(w)
 }
 
 /// Another list of the same.
