@@ -12,15 +12,15 @@ use Rattle.dc_kernel.proofs.AgendaQueues.{waits-absent}
 use Rattle.dc_kernel.proofs.agendas.Agenda.wake_one.Goals as goal
 
 pub set_state-requires-clause-absent : goal.set_state-requires-clause-absent
-set_state-requires-clause-absent g c κs within = waits-absent _ c.args.self.now c.self.view_is c.self.invariant c.args.d.0 c.requires.waits.0 c.requires.waits.1
+set_state-requires-clause-absent g c = waits-absent _ c.args.self.now c.self.view_is c.self.invariant c.args.d.0 c.requires.waits.0 c.requires.waits.1
 
 pub ready_last-requires-clause-ready : goal.ready_last-requires-clause-ready
-ready_last-requires-clause-ready g c κs within =
+ready_last-requires-clause-ready g c =
     ap (λ (x : ControlBlock). slice_get x.states c.args.d.0) (c.set_state.ensures.control no_store)
     ∙ set_here (map state_of c.args.self.now.disps) c.args.d.0 (disp.Waits c.requires.waits.0) disp.Ready c.requires.waits.1
 
 pub ready_last-requires-clause-absent : goal.ready_last-requires-clause-absent
-ready_last-requires-clause-absent g c κs within =
+ready_last-requires-clause-absent g c =
     ap (λ es. lists (dispatchers es) c.args.d.0) c.set_state.ensures.ready
     ∙ waits-absent _ c.args.self.now c.self.view_is c.self.invariant c.args.d.0 c.requires.waits.0 c.requires.waits.1
 
