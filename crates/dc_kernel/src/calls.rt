@@ -2,7 +2,9 @@
 
 mod channels;
 mod copies;
+mod ends;
 mod lines;
+mod messages;
 mod ports;
 mod prints;
 mod removals;
