@@ -1,12 +1,14 @@
 -- What the capabilities of a call name.
-use Rattle.std.proofs.Common.{◌≡◌, ℕ, suc, Bool, true, false, cond, List, [], ◌∷◌, ap, sym, refl, ◌∙◌, subst}
+use Rattle.std.proofs.Common.{◌≡◌, ℕ, suc, ◌<◌, Bool, true, false, cond, List, [], ◌∷◌, ap, sym, refl, ◌∙◌, subst}
 use Rattle.std.specs.Prelude.{Option, Some, None, ◌==◌, find, Result, Ok, Err, IfOk}
 use Rattle.std.specs.Option.{option_map}
+use Rattle.std.proofs.lemmas.Bool.{and_parts, ltb-true}
 use Rattle.std.proofs.lemmas.Option.{same_Some, none-some}
 use Rattle.dc_base.specs.declared.capabilities.Cap.{Cap}
 use Rattle.dc_base.specs.declared.capabilities.CapKind.{CapKind}
 use Rattle.dc_base.specs.Capabilities.{Seat, cap_at}
 use Rattle.dc_base.specs.ControlBlocks.{ControlBlock}
+use Rattle.dc_base.specs.Instructions.{are_slots}
 use Rattle.dc_base.specs.Words.{Each}
 use Rattle.dc_sound.specs.SoundControls.{NamesOwn, NamesWithin}
 
@@ -27,3 +29,9 @@ names_at x y s (Some cap) k names is held e = subst (NamesOwn x) (same_Some _ _ 
 pub map_ok : {A E : Type 0} {P Q : A → Type 0} (r : Result A E) → ((x : A) → P x → Q x) → IfOk r P → IfOk r Q
 map_ok (Ok x) f h = f x h
 map_ok (Err e) f h = tt
+
+pub slots_within : (a b imm : ℕ) → are_slots a b imm ≡ true → (a < 16) × (b < 16) × (imm < 65536)
+slots_within a b imm h =
+    let first = and_parts _ _ h in
+    let rest = and_parts _ _ first.1 in
+    (ltb-true a 16 first.0, ltb-true b 16 rest.0, ltb-true imm 65536 rest.1)
