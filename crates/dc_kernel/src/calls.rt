@@ -4,11 +4,8 @@ mod channels;
 mod copies;
 mod ends;
 mod lines;
-<<<<<<< HEAD
 mod needs;
-=======
 mod messages;
->>>>>>> d7ab174a1617e413e296afde46cca3305311a8d9
 mod ports;
 mod prints;
 mod removals;

@@ -1,0 +1,43 @@
+use Rattle.std.proofs.Common.{◌≡◌, ℕ, ◌<◌, ◌^◌, false, Some, sym, ap, ◌∙◌, subst, length}
+use Rattle.std.specs.Prelude.{slice_get}
+use Rattle.std.proofs.lemmas.Option.{slice_get_within, same_Some}
+use Rattle.dc_base.specs.declared.dispatchers.DispState.TheVariants as disp
+use Rattle.dc_base.specs.ControlBlocks.{ControlBlock}
+use Rattle.dc_base.specs.Words.{Each, lists}
+use Rattle.dc_kernel.specs.declared.drivers.Sliced.{Sliced}
+use Rattle.dc_kernel.specs.Slices.{sliced_seen}
+use Rattle.dc_kernel.proofs.ServeEnds.{running_context, fault_kept, hold_kept, fault_ends, hold_ends, made_ends}
+use Rattle.dc_kernel.proofs.WokenLists.{ready_stays, stays_unlisted, dues_stay}
+use Rattle.dc_kernel.proofs.forms.Form.serve.Goals as goal
+
+pub stand-requires-clause-there : goal.stand-requires-clause-there
+stand-requires-clause-there g c = subst (λ (x : ControlBlock). c.args.d.0 < length x.states) (sym (let there = running_context c.args.self.now c.args.d.0 c.requires.running in fault_kept c.call.result c.in-Fault.x _ c.in-Fault.is (c.call.ensures.served there.0 there.1).kept).0) (slice_get_within _ _ _ c.requires.running.state)
+
+pub stand-requires-clause-absent : goal.stand-requires-clause-absent
+stand-requires-clause-absent g c = subst (λ (x : ControlBlock). lists x.ready c.args.d.0 ≡ false) (sym (let there = running_context c.args.self.now c.args.d.0 c.requires.running in fault_kept c.call.result c.in-Fault.x _ c.in-Fault.is (c.call.ensures.served there.0 there.1).kept).0) c.requires.running.out
+
+pub stand-requires-clause-dues : goal.stand-requires-clause-dues
+stand-requires-clause-dues g c = subst (λ (x : ControlBlock). Each x.dues (λ d due. due < 2 ^ 63)) (sym (let there = running_context c.args.self.now c.args.d.0 c.requires.running in fault_kept c.call.result c.in-Fault.x _ c.in-Fault.is (c.call.ensures.served there.0 there.1).kept).0) c.requires.dues
+
+pub stand-requires-in-Hold-clause-there : goal.stand-requires-in-Hold-clause-there
+stand-requires-in-Hold-clause-there g c = subst (λ (x : ControlBlock). c.args.d.0 < length x.states) (sym (let there = running_context c.args.self.now c.args.d.0 c.requires.running in hold_kept c.call.result c.in-Hold.w _ c.in-Hold.is (c.call.ensures.served there.0 there.1).kept).0) (slice_get_within _ _ _ c.requires.running.state)
+
+pub stand-requires-in-Hold-clause-absent : goal.stand-requires-in-Hold-clause-absent
+stand-requires-in-Hold-clause-absent g c = subst (λ (x : ControlBlock). lists x.ready c.args.d.0 ≡ false) (sym (let there = running_context c.args.self.now c.args.d.0 c.requires.running in hold_kept c.call.result c.in-Hold.w _ c.in-Hold.is (c.call.ensures.served there.0 there.1).kept).0) c.requires.running.out
+
+pub stand-requires-in-Hold-clause-dues : goal.stand-requires-in-Hold-clause-dues
+stand-requires-in-Hold-clause-dues g c = subst (λ (x : ControlBlock). Each x.dues (λ d due. due < 2 ^ 63)) (sym (let there = running_context c.args.self.now c.args.d.0 c.requires.running in hold_kept c.call.result c.in-Hold.w _ c.in-Hold.is (c.call.ensures.served there.0 there.1).kept).0) c.requires.dues
+
+pub stay_ready-requires-clause-ready : goal.stay_ready-requires-clause-ready
+stay_ready-requires-clause-ready g c =
+    ap (λ (x : ControlBlock). slice_get x.states c.args.d.0) c.wake_if.ensures
+    ∙ ready_stays c.args.d.0 c.call.new.self c.in-Made.wakes (ap (λ (x : ControlBlock). slice_get x.states c.args.d.0) (let there = running_context c.args.self.now c.args.d.0 c.requires.running in (c.call.ensures.served there.0 there.1).rest) ∙ c.requires.running.state)
+
+pub stay_ready-requires-clause-absent : goal.stay_ready-requires-clause-absent
+stay_ready-requires-clause-absent g c =
+    ap (λ (x : ControlBlock). lists x.ready c.args.d.0) c.wake_if.ensures
+    ∙ stays_unlisted c.args.d.0 c.call.new.self c.in-Made.wakes (ap (λ (x : ControlBlock). slice_get x.states c.args.d.0) (let there = running_context c.args.self.now c.args.d.0 c.requires.running in (c.call.ensures.served there.0 there.1).rest) ∙ c.requires.running.state) (ap (λ (x : ControlBlock). lists x.ready c.args.d.0) (let there = running_context c.args.self.now c.args.d.0 c.requires.running in (c.call.ensures.served there.0 there.1).rest) ∙ c.requires.running.out)
+
+pub stay_ready-requires-clause-dues : goal.stay_ready-requires-clause-dues
+stay_ready-requires-clause-dues g c =
+    subst (λ dues. Each dues (λ d due. due < 2 ^ 63)) (sym (ap (λ (x : ControlBlock). x.dues) c.wake_if.ensures ∙ (dues_stay c.args.d.0 c.call.new.self c.in-Made.wakes ∙ ap (λ (x : ControlBlock). x.dues) (let there = running_context c.args.self.now c.args.d.0 c.requires.running in (c.call.ensures.served there.0 there.1).rest)))) c.requires.dues
