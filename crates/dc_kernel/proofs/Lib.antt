@@ -1,3 +1,4 @@
 pub mod AgendaWrites
 pub mod AgendaQueues
 pub mod AgendaWakes
+pub mod AgendaFires
