@@ -8,6 +8,9 @@ use Rattle.dc_base.specs.declared.dispatchers.DispState.{DispState}
 use Rattle.dc_base.specs.declared.dispatchers.DispState.TheVariants as disp
 use Rattle.dc_base.specs.declared.dispatchers.Wait.{Wait}
 use Rattle.dc_base.specs.declared.dispatchers.Wait.TheVariants as wait
+use Rattle.dc_base.specs.declared.interrupts.Latch.{Latch}
+use Rattle.dc_base.specs.Ports.{signal_after, signals_after}
+use Rattle.dc_base.specs.Words.{change}
 use Rattle.dc_base.specs.ControlBlocks.{ControlBlock}
 use Rattle.dc_base.specs.Firing.{same_wait, waits_so, waiters_from, state_after_wake, wake}
 use Rattle.dc_base.specs.Wakes.{ready_again}
@@ -93,6 +96,20 @@ module _ (i : ℕ) (w : Wait) (b : ControlBlock) (s : DispState) (here : slice_g
           ∙ append_assoc b.ready (i ∷ []) (waiters_from (i + 1) w rest)
           ∙ ap (λ l. b.ready ++ l) (one ∙ ap (waiters_from i w) (sym begins)) in
       λ j. record b { states = states j; ready = ready j }
+
+-- the parts stay
+pub signals-woken : (w : Wait) (b : ControlBlock) → (wake w b).parts.signals ≡ b.parts.signals
+unfolding wake
+signals-woken w b = refl
+
+length-change : {X : Type 0} (f : X → X) (i : ℕ) (xs : List X) → length (change f i xs) ≡ length xs
+length-change f i [] = refl
+length-change f zero (x ∷ xs) = refl
+length-change f (suc i) (x ∷ xs) = ap suc (length-change f i xs)
+
+pub signals-latched : (s : ℕ) (l : Latch) (os : List (Option Latch)) → length (signals_after s l os) ≡ length os
+unfolding signals_after
+signals-latched s l os = length-change (signal_after l) s os
 
 -- one step of the wakes: the dispatcher at i wakes where it waits so, and else stays
 pub woken-step : (i : ℕ) (w : Wait) (b : ControlBlock) (t : Bool) → i < length b.states → waits_at w b.states i ≡ t → rest_woken (i + 1) w (cond t (ready_again i b) b) ≡ rest_woken i w b

@@ -7,9 +7,11 @@ use Rattle.std.specs.Option.{option_map}
 use Rattle.std.proofs.lemmas.Option.{slice_get-map, slice_get_within, slice_get-get_or}
 use Rattle.dc_base.specs.declared.dispatchers.DispState.{DispState}
 use Rattle.dc_base.specs.declared.dispatchers.DispState.TheVariants as disp
+use Rattle.dc_base.specs.declared.interrupts.Latch.{Latch}
 use Rattle.dc_base.specs.declared.kernels.Version.TheVariants.{Edf}
 use Rattle.dc_base.specs.ControlBlocks.{ControlBlock}
 use Rattle.dc_base.specs.Effects.{Context}
+use Rattle.dc_base.specs.Ports.{signal_after, signals_after}
 use Rattle.dc_base.specs.Slices.{with_state, due_after}
 use Rattle.dc_base.specs.Words.{change, Each}
 use Rattle.dc_isa.specs.declared.dispatchers.Dispatcher.{Dispatcher}
@@ -24,6 +26,10 @@ refilled xs ws e = ap (λ l. take (length xs) (ws ++ l)) (drop_all (length ws) x
 -- one element of it is written
 pub put : {X : Type 0} (xs : List X) (i : ℕ) (x : X) → refill (length xs) xs (slice_set xs i x) ≡ slice_set xs i x
 put xs i x = refilled xs (slice_set xs i x) (length-set xs i x)
+
+-- so it stands where the list was lent
+pub put-over : {X : Type 0} (xs zs : List X) → zs ≡ xs → (i : ℕ) (x : X) → refill (length xs) xs (slice_set zs i x) ≡ slice_set xs i x
+put-over xs zs e i x = ap (λ l. refill (length xs) xs (slice_set l i x)) e ∙ put xs i x
 
 -- what is the same for the new element stays
 pub map-kept : {X Y : Type 0} (f : X → Y) (xs : List X) (i : ℕ) (x d : X) → f x ≡ f (slice_index_or xs i d) → map f (slice_set xs i x) ≡ map f xs
@@ -40,6 +46,14 @@ change-set : {X : Type 0} (f : X → X) (i : ℕ) (xs : List X) (d : X) → slic
 change-set f i [] d = refl
 change-set f zero (x ∷ xs) d = refl
 change-set f (suc i) (x ∷ xs) d = ap (λ ys. x ∷ ys) (change-set f i xs d)
+
+-- a signal is written that took a latch
+pub signal-latched : (os zs : List (Option Latch)) → zs ≡ os → (s : ℕ) (l : Latch) (d x : Option Latch) → x ≡ signal_after l (slice_index_or zs s d) → refill (length os) os (slice_set zs s x) ≡ signals_after s l os
+unfolding signals_after
+signal-latched os zs e s l d x is =
+    put-over os zs e s x
+    ∙ ap (slice_set os s) (is ∙ ap (λ us. signal_after l (slice_index_or us s d)) e)
+    ∙ change-set (signal_after l) s os d
 
 -- no store and no dispatcher
 abbrev pub no_store : Store
@@ -65,7 +79,7 @@ later_by n x = record x { due = x.due + n }
 abbrev pub written : (Dispatcher → Dispatcher) → ℕ → List Dispatcher → List Dispatcher
 written f i ds = slice_set ds i (f (slice_index_or ds i blank))
 
--- so it stands where the list was lent
+-- a dispatcher is written so
 pub put-written : (ds zs : List Dispatcher) → zs ≡ ds → (f : Dispatcher → Dispatcher) (i : ℕ) → refill (length ds) ds (written f i zs) ≡ written f i ds
 put-written ds zs e f i = ap (λ l. refill (length ds) ds (written f i l)) e ∙ put ds i (f (slice_index_or ds i blank))
 

@@ -13,3 +13,4 @@ pub mod WokenLists
 pub mod ServeEnds
 pub mod AgendaWakes
 pub mod CallPorts
+pub mod AgendaFires

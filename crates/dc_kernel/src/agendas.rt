@@ -15,13 +15,15 @@ ghost use Rattle.dc_base.specs.Kernel.{with_timer};
 ghost use Rattle.dc_base.specs.Slices.{with_state, ready_last, without_ready, due_after};
 ghost use Rattle.dc_base.specs.Timers.{is_due, soonest};
 ghost use Rattle.dc_base.specs.Wakes.{ready_again};
+ghost use Rattle.dc_base.specs.Timers.{due_timer};
+ghost use Rattle.dc_timers.specs.Numbers.{without_fired};
 ghost use Rattle.dc_ready.specs.Entries.{dispatchers};
 ghost use Rattle.dc_kcb.specs.Controls.{Store, control_of, due_of, state_of};
 ghost use Rattle.dc_kernel.specs.Contexts.{at_context};
 
 use arrayvec::ArrayVec;
 use dc_base::dispatchers::{DispState, Wait};
-use dc_base::interrupts::{Latch, Latched, Source};
+use dc_base::interrupts::{Latch, Latched, Source, Timer};
 use dc_base::numbers::{DispNo, SignalNo};
 use dc_isa::Dispatcher;
 use dc_ports::Signal;
@@ -163,7 +165,7 @@ impl<R: ReadyList, T: TimerQueue> Agenda<R, T> {
 
     /// A latch comes to a signal, and wakes all that wait for it.
     pub(crate) fn latch(&mut self, s: SignalNo, l: Latch) -> Latched
-        requires { s.0 < length self.old.signals }
+        requires there { s.0 < length self.old.signals }
         ensures how { result ≡ how_latched (latch_at self.old.signals s.0) }
         ensures control { (st : Store) → control_of st self.new ≡ latch_in s.0 l (control_of st self.old) }
         ensures size { length self.new.disps ≡ length self.old.disps }
@@ -182,7 +184,7 @@ impl<R: ReadyList, T: TimerQueue> Agenda<R, T> {
         ensures size { length self.new.disps ≡ length self.old.disps }
     {
         let mut count = 0;
-        while let Some(t) = self.timers.due(time) {
+        while let Some(t) = self.take_due(time) {
             let latch = Latch {
                 source: Source::Timer,
                 value: t.value,
@@ -191,6 +193,15 @@ impl<R: ReadyList, T: TimerQueue> Agenda<R, T> {
             count += 1;
         }
         count
+    }
+
+    /// The timer that fires first goes out of the armed ones, if one is due.
+    fn take_due(&mut self, time: u64) -> Option<Timer>
+        ensures which { result ≡ due_timer time self.old.timers }
+        ensures rest { self.new ≡ record self.old { timers = without_fired result self.old.timers } }
+    {
+        let _ = &self.disps;
+        self.timers.due(time)
     }
 
     /// The dispatcher that runs next once all due timers have fired.
