@@ -6,3 +6,4 @@ pub mod Turned
 pub mod Queued
 pub mod Serves
 pub mod Contexts
+pub mod Tested
