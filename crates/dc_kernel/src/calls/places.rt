@@ -16,7 +16,8 @@ use dc_timers::TimerQueue;
 pub(super) fn next_place<R: ReadyList, T: TimerQueue>(agenda: &mut Agenda<R, T>, d: DispNo)
     requires there { d.0 < length agenda.old.disps }
     requires places { Each (map context_of agenda.old.disps) (λ d (c : Context). c.place ≤ 65535) }
-    ensures { (s : Store) (x : Context) → slice_get (map context_of agenda.old.disps) d.0 ≡ Some x → control_of s agenda.new ≡ at_context d.0 (at_next_place x) (control_of s agenda.old) }
+    ensures control { (s : Store) (x : Context) → slice_get (map context_of agenda.old.disps) d.0 ≡ Some x → control_of s agenda.new ≡ at_context d.0 (at_next_place x) (control_of s agenda.old) }
+    ensures size { length agenda.new.disps ≡ length agenda.old.disps }
 {
     let disp = agenda.disp(d);
     agenda.go_to(d, disp.regs, disp.place + 1);
