@@ -1,13 +1,14 @@
 -- What a kernel call on the table of a block comes to.
-use Rattle.std.proofs.Common.{◌≡◌, ℕ, ◌+◌, ◌*◌, ◌<◌, ◌≤◌, List, Option, Some, None, refl, sym, ap, ◌∙◌, subst, arith, length, map, slice_get}
+use Rattle.std.proofs.Common.{◌≡◌, ℕ, ◌+◌, ◌*◌, ◌<◌, ◌≤◌, List, Bool, Option, Some, None, refl, sym, ap, ◌∙◌, subst, arith, length, map, slice_get}
 use Rattle.std.specs.Option.{option_map}
 use Rattle.std.proofs.lemmas.List.{length-map}
 use Rattle.std.proofs.lemmas.Option.{slice_get-map, slice_get_within}
 use Rattle.dc_base.specs.declared.dispatchers.Wait.{Wait}
 use Rattle.dc_base.specs.declared.messages.Message.{Message}
 use Rattle.dc_base.specs.Words.{Each}
-use Rattle.dc_base.specs.Effects.{Context, at_next_place}
-use Rattle.dc_base.specs.Kernel.{Call, faults, makes, with_next_place}
+use Rattle.dc_base.specs.Capabilities.{cap_at}
+use Rattle.dc_base.specs.Effects.{Context, reg, at_next_place}
+use Rattle.dc_base.specs.Kernel.{Call, faults, makes, with_next_place, retype_call}
 use Rattle.dc_base.specs.Parts.{Parts}
 use Rattle.dc_base.specs.ControlBlocks.{ControlBlock}
 use Rattle.dc_base.specs.Serving.{Outside, faulted, served, serve}
@@ -47,6 +48,10 @@ made_serves c n call x after out w p e f = record {
   kept = tt;
 }
 
+-- the registers of a context tell a part of raw memory
+pub retype_at : (from slot : ℕ) (into : Bool) (t : Caps) (w v : Context) (comes : Parts → Call) → w ≡ v → ((p : Parts) → p.caps ≡ t.set → length p.code ≡ t.disps → retype_call from slot into (reg w 6) (reg w 7) p (cap_at p.caps from) ≡ comes p) → (p : Parts) → p.caps ≡ t.set → length p.code ≡ t.disps → retype_call from slot into (reg v 6) (reg v 7) p (cap_at p.caps from) ≡ comes p
+retype_at from slot into t w v comes e f p same code = ap (λ (u : Context). retype_call from slot into (reg u 6) (reg u 7) p (cap_at p.caps from)) (sym e) ∙ f p same code
+
 -- the block of these fields
 abbrev pub block : List ℕ → List (List ℕ) → List (List Message) → Caps → Agenda → ControlBlock
 block memory code ports t a = control_of (record { memory = memory; code = code; caps = t.set; ports = ports }) a
@@ -78,6 +83,9 @@ module _ {memory : List ℕ} {code : List (List ℕ)} {ports : List (List Messag
 
   pub disp_below : d < 16
   disp_below = let few = subst (λ n. n ≤ 16) disps_are h.run.rest.shape.disps in let lt = disp_within in omega (arith, few, lt)
+
+  pub context_is : (w : Dispatcher) (v : Context) → slice_get a.disps d ≡ Some w → slice_get x.parts.contexts d ≡ Some v → context_of w ≡ v
+  context_is w v e f = same_context a.disps d w v e (ap (λ (y : ControlBlock). slice_get y.parts.contexts d) h.seen ∙ f)
 
   -- a call on the table faults, and leaves it
 
