@@ -1,1 +1,2 @@
 pub mod CapsServed
+pub mod CapsNeeded
