@@ -14,3 +14,5 @@ pub mod ServeEnds
 pub mod AgendaWakes
 pub mod CallPorts
 pub mod AgendaFires
+pub mod CapsServed
+pub mod CapsNeeded

@@ -9,3 +9,4 @@ pub mod Contexts
 pub mod Kernels
 pub mod Slices
 pub mod Ends
+pub mod Tested
