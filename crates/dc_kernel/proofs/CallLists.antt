@@ -38,3 +38,7 @@ there_at xs ws i d e h = ap (λ zs. slice_get zs i) (sym e) ∙ within ws i d (s
     within [] i d h = absurd (omega (arith, h))
     within (x ∷ xs) zero d h = refl
     within (x ∷ xs) (suc i) d h = within xs i d (omega (arith, h))
+
+-- a whole list written back
+pub put_all : {X : Type 0} (n : ℕ) (xs ws vs : List X) → ws ≡ xs → length ws ≡ n → length vs ≡ length ws → refill n xs vs ≡ vs
+put_all n xs ws vs e long size = ap (λ k. refill k xs vs) (sym long ∙ ap length e) ∙ full vs xs (size ∙ ap length e)

@@ -10,7 +10,7 @@ use Rattle.dc_base.specs.ControlBlocks.{ControlBlock}
 use Rattle.dc_base.specs.Effects.{Context}
 use Rattle.dc_base.specs.Instructions.{is_proper}
 use Rattle.dc_base.specs.Kernel.{Call, faults, waits, makes, call_of, with_end_and_frame, with_next_place, cap_in, number_in, first_in, send, recv}
-use Rattle.dc_base.specs.Parts.{Parts, words_at}
+use Rattle.dc_base.specs.Parts.{Parts, words_at, with_words, with_message}
 use Rattle.dc_base.specs.Ports.{messages_in, port_room, ports_after_send}
 use Rattle.dc_base.specs.Words.{elements}
 use Rattle.dc_kernel.proofs.CallEnds.{slots_within}
@@ -33,6 +33,14 @@ module _ (time d a b imm : ℕ) (x : Context) (p : Parts) where
   pub send_is : (q at : ℕ) → ((call : Call) → with_end_and_frame is_port write_right read_right imm (cap_in d p a) (cap_in d p b) call ≡ call) → q ≡ number_in (cap_in d p a) → at ≡ first_in (cap_in d p b) + imm → call_of time d x (Send a b imm) p ≡ send q (words_at p.memory at) (with_next_place d x p)
   unfolding call_of
   send_is q at e is from = e _ ∙ (ap (λ n. send n (words_at p.memory (first_in (cap_in d p b) + imm)) (with_next_place d x p)) (sym is) ∙ ap (λ n. send q (words_at p.memory n) (with_next_place d x p)) (sym from))
+
+  pub recv_faults : (k : ℕ) → ((call : Call) → with_end_and_frame is_port read_right write_right imm (cap_in d p a) (cap_in d p b) call ≡ faults k) → call_of time d x (Recv a b imm) p ≡ faults k
+  unfolding call_of
+  recv_faults k e = e _
+
+  pub recv_is : (q at : ℕ) → ((call : Call) → with_end_and_frame is_port read_right write_right imm (cap_in d p a) (cap_in d p b) call ≡ call) → q ≡ number_in (cap_in d p a) → at ≡ first_in (cap_in d p b) + imm → call_of time d x (Recv a b imm) p ≡ recv q at (with_next_place d x p) (messages_in p.ports q)
+  unfolding call_of
+  recv_is q at e is from = e _ ∙ (ap (λ n. recv n (first_in (cap_in d p b) + imm) (with_next_place d x p) (messages_in p.ports n)) (sym is) ∙ ap (λ n. recv q n (with_next_place d x p) (messages_in p.ports q)) (sym from))
 
 -- by what the port has
 by_room : (q : ℕ) (m : Message) (p : Parts) (ms : List Message) (t : Bool) → slice_get p.ports q ≡ Some ms → nat_lt (length ms) port_room ≡ t → send q m p ≡ (if t then makes (Some (wait.Recv (record { 0 = q }))) (record p { ports = slice_set p.ports q (ms ++ m ∷ []) }) else waits (wait.Send (record { 0 = q })))
@@ -66,3 +74,19 @@ port_changed y before ports q ms d x is e =
 -- a block whose ports are as before
 pub ports_kept : (y before : ControlBlock) (ports : List (List Message)) → y ≡ before → ports ≡ y.parts.ports → ◌≡◌ {A = ControlBlock} (record y { parts = record y.parts { ports = ports } }) before
 ports_kept y before ports is e = ap (λ ps. record y { parts = record y.parts { ports = ps } }) e ∙ is
+
+-- the port's first message is received
+pub recv_makes : (q at : ℕ) (p : Parts) (ports : List (List Message)) (ns ms : List Message) (m : Message) → slice_get ports q ≡ Some ns → ns ≡ m ∷ ms → recv q at p (messages_in ports q) ≡ makes (Some (wait.Send (record { 0 = q }))) (with_message at m (record p { ports = slice_set p.ports q ms }))
+recv_makes q at p ports ns ms m there e = ap (λ o. recv q at p (elements o)) there ∙ ap (recv q at p) e
+
+-- an empty port has none
+pub recv_waits : (q at : ℕ) (p : Parts) (ports : List (List Message)) (ns : List Message) → slice_get ports q ≡ Some ns → ns ≡ [] → recv q at p (messages_in ports q) ≡ waits (wait.Recv (record { 0 = q }))
+recv_waits q at p ports ns there e = ap (λ o. recv q at p (elements o)) there ∙ ap (recv q at p) e
+
+-- a block with a message in its memory and one less in a port, whose dispatcher went on
+pub port_received : (y before : ControlBlock) (memory : List ℕ) (ports : List (List Message)) (q at : ℕ) (ms : List Message) (m : Message) (d : ℕ) (x : Context) → y ≡ before → memory ≡ with_words at m.0 y.parts.memory → ports ≡ slice_set y.parts.ports q ms →
+    ◌≡◌ {A = ControlBlock} (record y { parts = with_next_place d x (record y.parts { memory = memory; ports = ports }) }) (record before { parts = with_message at m (record (with_next_place d x before.parts) { ports = slice_set before.parts.ports q ms }) })
+port_received y before memory ports q at ms m d x is written e =
+    ap (λ ps. record y { parts = with_next_place d x (record y.parts { memory = memory; ports = ps }) }) e
+    ∙ (ap (λ ws. record y { parts = with_next_place d x (record y.parts { memory = ws; ports = slice_set y.parts.ports q ms }) }) written
+    ∙ ap (λ (z : ControlBlock). record z { parts = with_message at m (record (with_next_place d x z.parts) { ports = slice_set z.parts.ports q ms }) }) is)
