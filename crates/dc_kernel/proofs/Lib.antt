@@ -16,3 +16,4 @@ pub mod CallPorts
 pub mod AgendaFires
 pub mod CapsServed
 pub mod CapsNeeded
+pub mod RunEnds

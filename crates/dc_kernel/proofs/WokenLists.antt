@@ -2,7 +2,7 @@
 use Rattle.std.proofs.Common.{◌≡◌, ℕ, zero, suc, ◌+◌, ◌<◌, List, [], ◌∷◌, ◌++◌, Bool, true, false, cond, Option, Some, None, refl, sym, ap, ◌∙◌, subst, map, arith}
 use Rattle.std.specs.Prelude.{slice_get, ◌==◌, ◌||◌}
 use Rattle.std.specs.Option.{option_map}
-use Rattle.std.proofs.lemmas.Bool.{eqb-false}
+use Rattle.std.proofs.lemmas.Bool.{ne_eqb, or_parts}
 use Rattle.std.proofs.lemmas.Option.{none-some, same_Some, slice_get-map}
 use Rattle.dc_base.specs.declared.dispatchers.DispState.{DispState}
 use Rattle.dc_base.specs.declared.dispatchers.DispState.TheVariants as disp
@@ -20,7 +20,7 @@ waiters_above n m w [] h = refl
 waiters_above n m w (s ∷ ss) h =
     let rest = waiters_above (n + 1) m w ss (omega (arith, h)) in
     elim (waits_so w s) as (λ b. lists (cond b (n ∷ waiters_from (n + 1) w ss) (waiters_from (n + 1) w ss)) m ≡ false)
-    [ true ↦ unlisted-step (n == m) (lists (waiters_from (n + 1) w ss) m) (eqb-false n m (λ e. omega (arith, h, e))) rest | false ↦ rest ]
+    [ true ↦ unlisted-step (n == m) (lists (waiters_from (n + 1) w ss) m) (ne_eqb n m (λ e. omega (arith, h, e))) rest | false ↦ rest ]
 
 -- a ready one is no waiter
 waiters_without : (n i : ℕ) (w : Wait) (ss : List DispState) → slice_get ss i ≡ Some disp.Ready → lists (waiters_from n w ss) (n + i) ≡ false
@@ -31,15 +31,11 @@ waiters_without n zero w (s ∷ ss) e =
 waiters_without n (suc i) w (s ∷ ss) e =
     let rest : lists (waiters_from (n + 1) w ss) (n + suc i) ≡ false = subst (λ m. lists (waiters_from (n + 1) w ss) m ≡ false) (omega (arith)) (waiters_without (n + 1) i w ss e) in
     elim (waits_so w s) as (λ b. lists (cond b (n ∷ waiters_from (n + 1) w ss) (waiters_from (n + 1) w ss)) (n + suc i) ≡ false)
-    [ true ↦ unlisted-step (n == (n + suc i)) (lists (waiters_from (n + 1) w ss) (n + suc i)) (eqb-false n (n + suc i) (λ e. omega (arith, e))) rest | false ↦ rest ]
+    [ true ↦ unlisted-step (n == (n + suc i)) (lists (waiters_from (n + 1) w ss) (n + suc i)) (ne_eqb n (n + suc i) (λ e. omega (arith, e))) rest | false ↦ rest ]
 
 lists-append : (xs ys : List ℕ) (d : ℕ) → lists xs d ≡ false → lists ys d ≡ false → lists (xs ++ ys) d ≡ false
 lists-append [] ys d p q = q
-lists-append (x ∷ xs) ys d p q = by_head (x == d) p
-  where
-    by_head : (b : Bool) → (b || lists xs d) ≡ false → (b || lists (xs ++ ys) d) ≡ false
-    by_head true p = absurd cc
-    by_head false p = lists-append xs ys d p q
+lists-append (x ∷ xs) ys d p q = let h = or_parts (x == d) (lists xs d) p in unlisted-step (x == d) (lists (xs ++ ys) d) h.0 (lists-append xs ys d h.1 q)
 
 module _ (d : ℕ) (x : ControlBlock) where
   pub ready_stays : (w : Option Wait) → slice_get x.states d ≡ Some disp.Ready → slice_get (wake_if w x).states d ≡ Some disp.Ready
@@ -50,7 +46,7 @@ module _ (d : ℕ) (x : ControlBlock) where
   pub stays_unlisted : (w : Option Wait) → slice_get x.states d ≡ Some disp.Ready → lists x.ready d ≡ false → lists (wake_if w x).ready d ≡ false
   unfolding wake
   stays_unlisted None e p = p
-  stays_unlisted (Some w) e p = lists-append x.ready (waiters_from 0 w x.states) d p (waiters_without 0 d w x.states e)
+  stays_unlisted (Some w) e p = lists-append x.ready (waiters_from 0 w x.states) d p (subst (λ m. lists (waiters_from 0 w x.states) m ≡ false) (omega (arith)) (waiters_without 0 d w x.states e))
 
   pub dues_stay : (w : Option Wait) → (wake_if w x).dues ≡ x.dues
   unfolding wake

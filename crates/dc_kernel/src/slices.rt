@@ -94,8 +94,10 @@ impl<R: ReadyList, T: TimerQueue> Form<R, T> {
         ensures { (time : ℕ) (x : ControlBlock) (a : plain.Ahead) → x.parts.caps ≡ self.now.parts.caps → end_seen ahead.now.end ≡ a.end → result ≡ need_of (after_ahead time x d.0 a a.end) }
     {
         match ahead.end {
+            AheadEnd::Quantum => Need::Nothing,
+            AheadEnd::Halt => Need::Nothing,
+            AheadEnd::Trap(_) => Need::Nothing,
             AheadEnd::Call(instr) => self.need(d, &instr),
-            _ => Need::Nothing,
         }
     }
 
