@@ -5,3 +5,4 @@ pub mod CallEnds
 pub mod CallServed
 pub mod CallPrints
 pub mod CallPorts
+pub mod CallChannels
