@@ -17,3 +17,4 @@ pub mod AgendaFires
 pub mod CapsServed
 pub mod CapsNeeded
 pub mod RunEnds
+pub mod CallChannels
