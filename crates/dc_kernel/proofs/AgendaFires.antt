@@ -1,10 +1,10 @@
 -- Timers that fire one after another.
 use Rattle.std.proofs.Common.{◌≡◌, ℕ, zero, suc, ◌+◌, ◌<◌, ◌≤◌, List, [], ◌∷◌, Bool, true, false, cond, not, Option, Some, None, refl, sym, ap, ◌∙◌, subst, length, arith}
-use Rattle.std.specs.Prelude.{slice_get, ◌==◌, filter, if◌then◌else◌}
+use Rattle.std.specs.Prelude.{slice_get, ◌==◌, filter, if◌then◌else◌, is_some}
 use Rattle.std.proofs.lemmas.Bool.{eq-eqb}
 use Rattle.std.proofs.lemmas.Option.{none-some, same_Some}
 use Rattle.dc_base.specs.declared.interrupts.Timer.{Timer}
-use Rattle.dc_base.specs.Timers.{soonest, if_due, due_timer, without_timer}
+use Rattle.dc_base.specs.Timers.{soonest, if_due, due_timer, is_due, without_timer}
 use Rattle.dc_base.specs.ControlBlocks.{ControlBlock}
 use Rattle.dc_base.specs.Firing.{Fired, wake, latch_in, after_firing, one_more_fired, fire_if, fire_from, fire_all}
 use Rattle.dc_base.specs.declared.interrupts.Source.TheVariants as source
@@ -82,6 +82,13 @@ module _ (time : ℕ) where
   pub fire-none : (b : ControlBlock) → due_timer time b.parts.timers ≡ None → fire_all time b ≡ record { control = b; count = 0 }
   unfolding fire_all
   fire-none b e = stops_by (length b.parts.timers) b e
+
+  pub fire-not_due : (b : ControlBlock) (ts : List Timer) → ts ≡ b.parts.timers → is_due time ts ≡ false → (fire_all time b).control ≡ b
+  fire-not_due b ts same e = ap (λ (f : Fired). f.control) (fire-none b (ap (due_timer time) (sym same) ∙ none_by (due_timer time ts) e))
+    where
+      none_by : (o : Option Timer) → is_some o ≡ false → o ≡ None
+      none_by None h = refl
+      none_by (Some t) h = absurd cc
 
   goes_by : (n : ℕ) (b : ControlBlock) (t : Timer) → due_timer time b.parts.timers ≡ Some t → length b.parts.timers ≡ n → fire_from time n b ≡ one_more_fired (fire_from time (length (after_firing t b).parts.timers) (after_firing t b))
   goes_by zero b t e s = absurd (let less = due-shorter time b.parts.timers t e in omega (arith, less, s))

@@ -69,12 +69,12 @@ module _ (i : ℕ) (w : Wait) (b : ControlBlock) (s : DispState) (here : slice_g
       let same : s ≡ state_after_wake w s = ap (λ t. cond t disp.Ready s) (sym none_so) in
       let none : waiters_from (i + 1) w rest ≡ waiters_from i w (s ∷ rest) = ap (λ t. cond t (i ∷ waiters_from (i + 1) w rest) (waiters_from (i + 1) w rest)) (sym none_so) in
       let states : take (i + 1) b.states ++ map (state_after_wake w) rest ≡ take i b.states ++ map (state_after_wake w) (drop i b.states) =
-          ap (λ l. l ++ map (state_after_wake w) rest) ends
-          ∙ append_assoc (take i b.states) (s ∷ []) (map (state_after_wake w) rest)
-          ∙ ap (λ t. take i b.states ++ t ∷ map (state_after_wake w) rest) same
-          ∙ ap (λ l. take i b.states ++ map (state_after_wake w) l) (sym begins) in
+      ap (λ l. l ++ map (state_after_wake w) rest) ends
+      ∙ append_assoc (take i b.states) (s ∷ []) (map (state_after_wake w) rest)
+      ∙ ap (λ t. take i b.states ++ t ∷ map (state_after_wake w) rest) same
+      ∙ ap (λ l. take i b.states ++ map (state_after_wake w) l) (sym begins) in
       let ready : b.ready ++ waiters_from (i + 1) w rest ≡ b.ready ++ waiters_from i w (drop i b.states) =
-          ap (λ l. b.ready ++ l) (none ∙ ap (waiters_from i w) (sym begins)) in
+      ap (λ l. b.ready ++ l) (none ∙ ap (waiters_from i w) (sym begins)) in
       λ j. record b { states = states j; ready = ready j }
 
   -- one that does
@@ -86,15 +86,15 @@ module _ (i : ℕ) (w : Wait) (b : ControlBlock) (s : DispState) (here : slice_g
       let one : i ∷ waiters_from (i + 1) w rest ≡ waiters_from i w (s ∷ rest) = ap (λ t. cond t (i ∷ waiters_from (i + 1) w rest) (waiters_from (i + 1) w rest)) (sym so) in
       let after : drop (i + 1) now ≡ rest = drop-set-lt (i + 1) b.states i disp.Ready (omega arith) in
       let states : take (i + 1) now ++ map (state_after_wake w) (drop (i + 1) now) ≡ take i b.states ++ map (state_after_wake w) (drop i b.states) =
-          ap (λ l. l ++ map (state_after_wake w) (drop (i + 1) now)) (take_more_set b.states i disp.Ready lt)
-          ∙ ap (λ l. (take i b.states ++ disp.Ready ∷ []) ++ map (state_after_wake w) l) after
-          ∙ append_assoc (take i b.states) (disp.Ready ∷ []) (map (state_after_wake w) rest)
-          ∙ ap (λ t. take i b.states ++ t ∷ map (state_after_wake w) rest) same
-          ∙ ap (λ l. take i b.states ++ map (state_after_wake w) l) (sym begins) in
+      ap (λ l. l ++ map (state_after_wake w) (drop (i + 1) now)) (take_more_set b.states i disp.Ready lt)
+      ∙ ap (λ l. (take i b.states ++ disp.Ready ∷ []) ++ map (state_after_wake w) l) after
+      ∙ append_assoc (take i b.states) (disp.Ready ∷ []) (map (state_after_wake w) rest)
+      ∙ ap (λ t. take i b.states ++ t ∷ map (state_after_wake w) rest) same
+      ∙ ap (λ l. take i b.states ++ map (state_after_wake w) l) (sym begins) in
       let ready : (b.ready ++ i ∷ []) ++ waiters_from (i + 1) w (drop (i + 1) now) ≡ b.ready ++ waiters_from i w (drop i b.states) =
-          ap (λ l. (b.ready ++ i ∷ []) ++ waiters_from (i + 1) w l) after
-          ∙ append_assoc b.ready (i ∷ []) (waiters_from (i + 1) w rest)
-          ∙ ap (λ l. b.ready ++ l) (one ∙ ap (waiters_from i w) (sym begins)) in
+      ap (λ l. (b.ready ++ i ∷ []) ++ waiters_from (i + 1) w l) after
+      ∙ append_assoc b.ready (i ∷ []) (waiters_from (i + 1) w rest)
+      ∙ ap (λ l. b.ready ++ l) (one ∙ ap (waiters_from i w) (sym begins)) in
       λ j. record b { states = states j; ready = ready j }
 
 -- the parts stay

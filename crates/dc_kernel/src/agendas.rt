@@ -256,8 +256,13 @@ impl<R: ReadyList, T: TimerQueue> Agenda<R, T> {
         self.signals[s.0 as usize].take()
     }
 
-    /// Arms a timer of a signal. None where 64 are armed.
-    pub(crate) fn arm(&mut self, deadline: u64, signal: SignalNo, value: u32) -> Result<(), TimersFull>
+    /// Arms a timer of a signal, unless 64 are armed.
+    pub(crate) fn arm(
+        &mut self,
+        deadline: u64,
+        signal: SignalNo,
+        value: u32,
+    ) -> Result<(), TimersFull>
         requires { self.old.next_timer < 2 ^ 32 - 1 }
         ensures full { IsErr result ↔ (64 ≤ length self.old.timers) }
         ensures armed { OnOk result ((st : Store) → control_of st self.new ≡ (let x = control_of st self.old in record x { parts = with_timer deadline signal.0 value x.parts })) }

@@ -1,4 +1,4 @@
-use Rattle.std.proofs.Common.{◌≡◌, ◌<◌, ◌^◌, ℕ, List, false, ap, sym, ◌∙◌, refl, subst, length, map, arith}
+use Rattle.std.proofs.Common.{◌≡◌, ◌<◌, ◌^◌, List, false, ap, sym, ◌∙◌, refl, subst, length, map, arith}
 use Rattle.std.specs.Prelude.{slice_index_or}
 use Rattle.dc_kcb.specs.Controls.{Agenda, control_of, due_of, state_of}
 use Rattle.dc_base.specs.declared.kernels.Version.TheVariants.{Edf}
@@ -18,7 +18,6 @@ overflow_add-deref_mut g c =
     let within : Each (map due_of ds) (λ d due. due < 2 ^ 63) = subst (λ (a : Agenda). Each (map due_of a.disps) (λ d due. due < 2 ^ 63)) (sym c.self.view_is) c.requires.within in
     let below : (slice_index_or c.deref_mut.result.now c.args.d.0 blank).due < 2 ^ 63 = due-below ds c.args.d.0 c.deref_mut.result.now c.deref_mut.ensures.value lt within in
     omega arith
-
 
 pub invariant_of-self : goal.invariant_of-self
 invariant_of-self g c =

@@ -1,6 +1,6 @@
-use Rattle.std.proofs.Common.{◌≡◌, ◌<◌, ◌≤◌, ◌+◌, Some, None, ap, sym, ◌∙◌, refl, subst, length, arith}
-use Rattle.dc_base.specs.Firing.{fire_all, after_firing}
-use Rattle.dc_base.specs.Timers.{due_timer, without_timer}
+use Rattle.std.proofs.Common.{◌≡◌, ◌<◌, ◌+◌, Some, None, ap, sym, ◌∙◌, refl, length, arith}
+use Rattle.dc_base.specs.Firing.{fire_all}
+use Rattle.dc_base.specs.Timers.{due_timer}
 use Rattle.dc_timers.specs.Numbers.{without_fired}
 use Rattle.dc_kcb.specs.Controls.{Agenda, control_of}
 use Rattle.dc_kernel.proofs.AgendaWrites.{no_store}

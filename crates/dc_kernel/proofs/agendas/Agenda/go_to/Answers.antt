@@ -1,4 +1,4 @@
-use Rattle.std.proofs.Common.{◌≡◌, false, ap, sym, ◌∙◌, refl, subst}
+use Rattle.std.proofs.Common.{ap, sym, ◌∙◌, refl, subst}
 use Rattle.dc_kcb.specs.Controls.{Agenda, control_of}
 use Rattle.dc_kernel.specs.Contexts.{at_context}
 use Rattle.dc_kernel.specs.Queued.{AreQueued}

@@ -1,11 +1,9 @@
-use Rattle.std.proofs.Common.{◌≡◌, ◌<◌, List, Some, false, ap, sym, ◌∙◌, subst, length, map}
-use Rattle.std.specs.Prelude.{slice_get, slice_index_or}
-use Rattle.std.specs.Option.{option_map, option_map_or}
-use Rattle.std.proofs.lemmas.Option.{slice_get-map, slice_get-get_or}
+use Rattle.std.proofs.Common.{◌<◌, false, ap, sym, ◌∙◌, subst, length, map}
+use Rattle.std.specs.Prelude.{slice_get}
+use Rattle.std.specs.Option.{option_map_or}
 use Rattle.dc_base.specs.Firing.{waits_so}
-use Rattle.dc_isa.specs.declared.dispatchers.Dispatcher.{Dispatcher}
 use Rattle.dc_kcb.specs.Controls.{Agenda, state_of}
-use Rattle.dc_kernel.proofs.AgendaWrites.{blank, state-there}
+use Rattle.dc_kernel.proofs.AgendaWrites.{state-there}
 use Rattle.dc_kernel.proofs.agendas.Agenda.waits.Goals as goal
 
 pub returns : goal.returns
