@@ -1,2 +1,3 @@
 pub mod CapsServed
 pub mod CapsNeeded
+pub mod LineServed
