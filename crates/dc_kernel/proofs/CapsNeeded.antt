@@ -149,8 +149,8 @@ used_where set s = by_seat (seat_at set s)
     by_seat None = refl
     by_seat (Some h) = refl
 
-pub two_held : (set caps : List Seat) → caps ≡ set → (s t : ℕ) (a b : Option Cap) → a ≡ cap_at set s → b ≡ cap_at set t → (call : Option Cap → Option Cap → Call) → need (call a b) ≡ need (call (cap_at caps s) (cap_at caps t))
-two_held set caps same s t a b e f call = ap (λ a. need (call a b)) (e ∙ ap (λ c. cap_at c s) (sym same)) ∙ ap (λ b. need (call (cap_at caps s) b)) (f ∙ ap (λ c. cap_at c t) (sym same))
+pub two_held : {X : Type 0} (set caps : List Seat) → caps ≡ set → (s t : ℕ) (a b : Option Cap) → a ≡ cap_at set s → b ≡ cap_at set t → (f : Option Cap → Option Cap → X) → f a b ≡ f (cap_at caps s) (cap_at caps t)
+two_held set caps same s t a b e g f = ap (λ a. f a b) (e ∙ ap (λ c. cap_at c s) (sym same)) ∙ ap (λ b. f (cap_at caps s) b) (g ∙ ap (λ c. cap_at c t) (sym same))
 
 pub as_told : (time d : ℕ) (x : Context) (p : Parts) (i j : Instr) → i ≡ j → need (call_of time d x j p) ≡ need (call_of time d x i p)
 as_told time d x p i j e = ap (λ i. need (call_of time d x i p)) (sym e)

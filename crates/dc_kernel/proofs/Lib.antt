@@ -18,3 +18,4 @@ pub mod CapsServed
 pub mod CapsNeeded
 pub mod RunEnds
 pub mod CallChannels
+pub mod LineServed

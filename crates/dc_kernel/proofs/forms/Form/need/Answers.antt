@@ -71,28 +71,28 @@ pub returns-in-Csend : goal.returns-in-Csend
 unfolding need call_of
 returns-in-Csend g c = λ time x p e. (let set = e ∙ ap (λ (y : ControlBlock). y.parts.caps) (sym c.self.view_is) in
     c.csend_need.ensures (words_at p.memory (first_in (cap_in c.args.d.0 p c.in-Csend.b) + c.in-Csend.imm)) (with_next_place c.args.d.0 x p)
-    ∙ two_held c.self.inside.table.set p.caps set (slot_number c.args.d.0 c.in-Csend.a) (slot_number c.args.d.0 c.in-Csend.b) c.look.result c.look-in-Csend.result c.look.ensures.value c.look-in-Csend.ensures.value (λ a b. with_end_and_frame is_send_end write_right read_right c.in-Csend.imm a b (sends (number_in a) (words_at p.memory (first_in (cap_in c.args.d.0 p c.in-Csend.b) + c.in-Csend.imm)) (with_next_place c.args.d.0 x p)))
+    ∙ two_held c.self.inside.table.set p.caps set (slot_number c.args.d.0 c.in-Csend.a) (slot_number c.args.d.0 c.in-Csend.b) c.look.result c.look-in-Csend.result c.look.ensures.value c.look-in-Csend.ensures.value (λ a b. need (with_end_and_frame is_send_end write_right read_right c.in-Csend.imm a b (sends (number_in a) (words_at p.memory (first_in (cap_in c.args.d.0 p c.in-Csend.b) + c.in-Csend.imm)) (with_next_place c.args.d.0 x p))))
     ∙ as_told time c.args.d.0 x p c.args.instr.now (Csend c.in-Csend.a c.in-Csend.b c.in-Csend.imm) c.in-Csend.is)
 
 pub returns-in-Crecv : goal.returns-in-Crecv
 unfolding need call_of
 returns-in-Crecv g c = λ time x p e. (let set = e ∙ ap (λ (y : ControlBlock). y.parts.caps) (sym c.self.view_is) in
     c.crecv_need.ensures (first_in (cap_in c.args.d.0 p c.in-Crecv.b) + c.in-Crecv.imm) (with_next_place c.args.d.0 x p)
-    ∙ two_held c.self.inside.table.set p.caps set (slot_number c.args.d.0 c.in-Crecv.a) (slot_number c.args.d.0 c.in-Crecv.b) c.look-in-Crecv.result c.look-in-Crecv-2.result c.look-in-Crecv.ensures.value c.look-in-Crecv-2.ensures.value (λ a b. with_end_and_frame is_recv_end read_right write_right c.in-Crecv.imm a b (receives (number_in a) (first_in (cap_in c.args.d.0 p c.in-Crecv.b) + c.in-Crecv.imm) (with_next_place c.args.d.0 x p)))
+    ∙ two_held c.self.inside.table.set p.caps set (slot_number c.args.d.0 c.in-Crecv.a) (slot_number c.args.d.0 c.in-Crecv.b) c.look-in-Crecv.result c.look-in-Crecv-2.result c.look-in-Crecv.ensures.value c.look-in-Crecv-2.ensures.value (λ a b. need (with_end_and_frame is_recv_end read_right write_right c.in-Crecv.imm a b (receives (number_in a) (first_in (cap_in c.args.d.0 p c.in-Crecv.b) + c.in-Crecv.imm) (with_next_place c.args.d.0 x p))))
     ∙ as_told time c.args.d.0 x p c.args.instr.now (Crecv c.in-Crecv.a c.in-Crecv.b c.in-Crecv.imm) c.in-Crecv.is)
 
 pub returns-in-Bind : goal.returns-in-Bind
 unfolding need call_of
 returns-in-Bind g c = λ time x p e. (let set = e ∙ ap (λ (y : ControlBlock). y.parts.caps) (sym c.self.view_is) in
     c.bind_need.ensures (with_next_place c.args.d.0 x p)
-    ∙ two_held c.self.inside.table.set p.caps set (slot_number c.args.d.0 c.in-Bind.a) (slot_number c.args.d.0 c.in-Bind.b) c.look-in-Bind.result c.look-in-Bind-2.result c.look-in-Bind.ensures.value c.look-in-Bind-2.ensures.value (λ a b. bind_call (with_next_place c.args.d.0 x p) a b)
+    ∙ two_held c.self.inside.table.set p.caps set (slot_number c.args.d.0 c.in-Bind.a) (slot_number c.args.d.0 c.in-Bind.b) c.look-in-Bind.result c.look-in-Bind-2.result c.look-in-Bind.ensures.value c.look-in-Bind-2.ensures.value (λ a b. need (bind_call (with_next_place c.args.d.0 x p) a b))
     ∙ as_told time c.args.d.0 x p c.args.instr.now (Bind c.in-Bind.a c.in-Bind.b) c.in-Bind.is)
 
 pub returns-in-Give : goal.returns-in-Give
 unfolding need call_of
 returns-in-Give g c = λ time x p e. (let set = e ∙ ap (λ (y : ControlBlock). y.parts.caps) (sym c.self.view_is) in
     c.give_need.ensures (with_next_place c.args.d.0 x p)
-    ∙ two_held c.self.inside.table.set p.caps set (slot_number c.args.d.0 c.in-Give.a) (slot_number c.args.d.0 c.in-Give.b) c.look-in-Give.result c.look-in-Give-2.result c.look-in-Give.ensures.value c.look-in-Give-2.ensures.value (λ a b. give_call (with_next_place c.args.d.0 x p) a b)
+    ∙ two_held c.self.inside.table.set p.caps set (slot_number c.args.d.0 c.in-Give.a) (slot_number c.args.d.0 c.in-Give.b) c.look-in-Give.result c.look-in-Give-2.result c.look-in-Give.ensures.value c.look-in-Give-2.ensures.value (λ a b. need (give_call (with_next_place c.args.d.0 x p) a b))
     ∙ as_told time c.args.d.0 x p c.args.instr.now (Give c.in-Give.a c.in-Give.b) c.in-Give.is)
 
 pub returns-in-Claim : goal.returns-in-Claim
@@ -100,7 +100,7 @@ unfolding need call_of
 returns-in-Claim g c = λ time x p e. (let set = e ∙ ap (λ (y : ControlBlock). y.parts.caps) (sym c.self.view_is) in
     let slot = slot_number c.args.d.0 c.in-Claim.b in
     c.claim_need.ensures slot (with_next_place c.args.d.0 x p) (ap (λ caps. is_used caps slot) set ∙ used_where c.self.inside.table.set slot ∙ ap is_some (sym c.look-in-Claim-2.ensures.value) ∙ sym c.is_some.ensures)
-    ∙ two_held c.self.inside.table.set p.caps set (slot_number c.args.d.0 c.in-Claim.a) slot c.look-in-Claim.result c.look-in-Claim-2.result c.look-in-Claim.ensures.value c.look-in-Claim-2.ensures.value (λ a b. claim_call c.in-Claim.imm slot (with_next_place c.args.d.0 x p) a)
+    ∙ two_held c.self.inside.table.set p.caps set (slot_number c.args.d.0 c.in-Claim.a) slot c.look-in-Claim.result c.look-in-Claim-2.result c.look-in-Claim.ensures.value c.look-in-Claim-2.ensures.value (λ a b. need (claim_call c.in-Claim.imm slot (with_next_place c.args.d.0 x p) a))
     ∙ as_told time c.args.d.0 x p c.args.instr.now (Claim c.in-Claim.a c.in-Claim.b c.in-Claim.imm) c.in-Claim.is)
 
 pub returns-in_default : goal.returns-in_default
