@@ -1,4 +1,4 @@
-//! The lines of journals and of reports.
+//! The lines of journals and of reports, journals read back, and the logs of actors merged into one history.
 #![tactic(auto)]
 
 mod candidates;
