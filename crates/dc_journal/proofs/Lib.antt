@@ -1,5 +1,6 @@
 mod Choices
 mod Numbers
+mod Placing
 mod Reading
 mod TextLines
 mod WordPlaces

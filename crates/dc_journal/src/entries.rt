@@ -13,7 +13,7 @@ use dc_base::entries::{Entry, What};
 use dc_base::numbers::Ticket;
 use dc_text::{Line, push_u32, push_u64, push_word};
 
-/// The line of an entry, without its newline, for which it has room.
+/// The line of an entry that has one, without its newline, for which it has room.
 #[tactic(auto, unfolding(dc_base::specs::EntryText::entry_text, dc_base::specs::EntryRanges::has_line))]
 pub fn entry_line(ticket: Ticket, entry: &Entry) -> Line
     requires { IsTrue (spec.has_line entry.now) }
@@ -65,9 +65,9 @@ fn is_of_script(what: &What) -> bool
     }
 }
 
-/// Whether there is a line for the entry.
+/// Whether there is a line for the entry: a core made an entry of a core whose end, if it is a slice, has a word, or the script made an entry of the script.
 #[tactic(auto, unfolding(dc_base::specs::EntryRanges::has_line))]
-pub(crate) fn has_line(entry: &Entry) -> bool
+pub fn has_line(entry: &Entry) -> bool
     ensures { result ≡ spec.has_line entry.now }
 {
     match entry.actor {

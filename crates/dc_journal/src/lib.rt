@@ -1,10 +1,11 @@
-//! The lines of journals and of reports.
+//! The lines of journals and of reports, journals read back, and the logs of actors merged into one history.
 #![tactic(auto)]
 
 mod candidates;
 mod ends;
 mod entries;
 mod journals;
+mod merging;
 mod names;
 mod refusals;
 mod reports;
@@ -14,6 +15,7 @@ mod tests;
 mod whats;
 mod words;
 
-pub use entries::entry_line;
+pub use entries::{entry_line, has_line};
 pub use journals::read_journal;
+pub use merging::{Logged, merge};
 pub use reports::report_line;

@@ -1,3 +1,5 @@
+mod merging;
+
 use crate::{entry_line, read_journal, report_line};
 use dc_base::actions::Actor;
 use dc_base::calls::{End, Op};
