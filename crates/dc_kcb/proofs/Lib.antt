@@ -1,0 +1,2 @@
+mod Disps
+mod EmptySlots

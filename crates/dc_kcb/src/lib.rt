@@ -1,8 +1,12 @@
 //! The kernel control block: all that a kernel has of a block, at rest.
 #![tactic(auto)]
 
+mod copies;
 mod kcb;
 mod parts;
+mod readers;
+mod slots;
 
 pub use kcb::Kcb;
 pub use parts::Parts;
+pub use slots::{cap_in, parent_in};
