@@ -1,2 +1,5 @@
 mod Disps
 mod EmptySlots
+mod FirstParts
+mod Growing
+mod Seatings

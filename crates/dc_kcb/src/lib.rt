@@ -1,11 +1,14 @@
 //! The kernel control block: all that a kernel has of a block, at rest.
 #![tactic(auto)]
 
+mod boot;
 mod copies;
 mod kcb;
 mod parts;
 mod readers;
+mod seating;
 mod slots;
+mod starts;
 
 pub use kcb::Kcb;
 pub use parts::Parts;
