@@ -3,3 +3,4 @@ mod EmptySlots
 mod FirstParts
 mod Growing
 mod Seatings
+mod SmallBlock

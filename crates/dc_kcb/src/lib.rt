@@ -9,6 +9,8 @@ mod readers;
 mod seating;
 mod slots;
 mod starts;
+#[cfg(test)]
+mod tests;
 
 pub use kcb::Kcb;
 pub use parts::Parts;
