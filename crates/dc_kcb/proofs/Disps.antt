@@ -14,9 +14,9 @@ use Rattle.dc_kcb.specs.Readings.{disp_at}
 abbrev joined : Option Context → Option DispState → Option ℕ → Option ℕ → Option Dispatcher
 joined c state due period = bind c (λ c. bind state (λ state. bind due (λ due. option_map (λ period. record { regs = c.regs; place = c.place; state = state; due = due; period = period }) period)))
 
-pub disp_is : (s : Store) (a : Agenda) (d : ℕ) → slice_get a.disps d ≡ disp_at (control_of s a) d
+pub disp_is : (s : Store) (a : Agenda) (d : ℕ) → disp_at (control_of s a) d ≡ slice_get a.disps d
 unfolding disp_at
-disp_is s a d = by_disp (slice_get a.disps d) ∙ sym there
+disp_is s a d = there ∙ sym (by_disp (slice_get a.disps d))
   where
     there : disp_at (control_of s a) d ≡ joined (option_map context_of (slice_get a.disps d)) (option_map state_of (slice_get a.disps d)) (option_map due_of (slice_get a.disps d)) (option_map period_of (slice_get a.disps d))
     there = simp (slice_get-map)

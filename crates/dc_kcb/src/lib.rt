@@ -3,6 +3,7 @@
 
 mod boot;
 mod copies;
+mod fields;
 mod kcb;
 mod parts;
 mod readers;
@@ -12,6 +13,7 @@ mod starts;
 #[cfg(test)]
 mod tests;
 
+pub use fields::{code_in, disp_in, dispatchers_are_read, latch_in, port_in};
 pub use kcb::Kcb;
 pub use parts::Parts;
 pub use slots::{cap_in, parent_in};

@@ -9,6 +9,7 @@ ghost use Rattle.dc_ready.specs.Entries.{dispatchers, entries_of, AreDues, IsRea
 ghost use Rattle.dc_kcb.specs.Readings.{disp_at};
 
 use crate::copies::copied;
+use crate::fields::{code_in, disp_in, dispatchers_are_read, latch_in, port_in};
 use crate::kcb::Kcb;
 use crate::slots::{cap_in, parent_in};
 use arrayvec::ArrayVec;
@@ -18,18 +19,12 @@ use dc_base::numbers::{DispNo, PortNo, SignalNo, SlotNo};
 use dc_isa::Dispatcher;
 use dc_ports::Port;
 
-/// The dispatcher of this number among these.
-fn disp_in(disps: &ArrayVec<Dispatcher, 16>, d: DispNo) -> Option<Dispatcher>
-    ensures { result ≡ slice_get disps.now.items d.0 }
-{
-    disps.get(d.0 as usize).copied()
-}
-
 impl Kcb {
     /// Dispatcher `d`. None where there is none of this number.
     pub fn disp(&self, d: DispNo) -> Option<Dispatcher>
         ensures { result ≡ disp_at self.now.control d.0 }
     {
+        dispatchers_are_read();
         disp_in(&self.parts.disps, d)
     }
 
@@ -82,7 +77,7 @@ impl Kcb {
     pub fn port(&self, p: PortNo) -> Option<&Port>
         ensures { option_copied result ≡ slice_get self.now.control.parts.ports p.0 }
     {
-        self.parts.ports.get(p.0 as usize)
+        port_in(&self.parts.ports, p)
     }
 
     /// How many ports there are.
@@ -96,10 +91,7 @@ impl Kcb {
     pub fn signal(&self, s: SignalNo) -> Option<Latch>
         ensures { result ≡ latch_at self.now.control.parts.signals s.0 }
     {
-        match self.parts.signals.get(s.0 as usize) {
-            Some(signal) => signal.look(),
-            None => None,
-        }
+        latch_in(&self.parts.signals, s)
     }
 
     /// How many signals there are.
@@ -127,9 +119,6 @@ impl Kcb {
     pub fn code(&self, d: DispNo) -> Option<&[u32]>
         ensures { option_copied result ≡ slice_get self.now.control.parts.code d.0 }
     {
-        match self.parts.code.get(d.0 as usize) {
-            Some(code) => Some(code.as_slice()),
-            None => None,
-        }
+        code_in(self.parts.code.as_slice(), d)
     }
 }
