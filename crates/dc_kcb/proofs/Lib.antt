@@ -1,0 +1,6 @@
+mod Disps
+mod EmptySlots
+mod FirstParts
+mod Growing
+mod Seatings
+mod SmallBlock

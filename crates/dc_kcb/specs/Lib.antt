@@ -1,2 +1,4 @@
 pub mod Controls
+pub mod Readings
+pub mod Starts
 pub mod Wholes

@@ -1,5 +1,5 @@
 -- What a kernel control block is made of, and what it keeps.
-use Rattle.std.specs.Prelude.{◌≡◌, ℕ, List, map, length}
+use Rattle.std.specs.Prelude.{◌≡◌, ℕ, map, length}
 use Rattle.dc_base.specs.Timers.{in_order}
 use Rattle.dc_base.specs.ControlBlocks.{ControlBlock}
 use Rattle.dc_sound.specs.SoundControls.{IsSoundControl}

@@ -7,7 +7,7 @@ use std::marker::Model;
 /// A kernel control block: a block at rest, with its kept time.
 #[derive(Drop)]
 pub struct Kcb {
-    parts: Parts,
+    pub(crate) parts: Parts,
 }
 
 impl Model for Kcb {
