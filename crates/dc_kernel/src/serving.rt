@@ -36,8 +36,19 @@ impl<R: ReadyList, T: TimerQueue> Form<R, T> {
         ensures kind { (n : Need) → Fits n outside.old → Fits n outside.new }
     {
         match *instr {
-            Instr::Out { a } => self.out(d, a, outside),
+            Instr::Out { a } => self.print(d, a, outside),
             Instr::Yield => self.give_way(d),
+            Instr::Send { a, b, imm } => self.send(d, a, b, imm),
+            Instr::Recv { a, b, imm } => self.recv(d, a, b, imm),
+            Instr::Csend { a, b, imm } => self.csend(d, a, b, imm, outside),
+            Instr::Crecv { a, b, imm } => self.crecv(d, a, b, imm, outside),
+            Instr::Copy { a, b, imm } => self.copy(d, a, b, imm),
+            Instr::Retype { a, b, imm } => self.retype(d, a, b, imm),
+            Instr::Delete { a } => self.delete(d, a),
+            Instr::Revoke { a } => self.revoke(d, a),
+            Instr::Bind { a, b } => self.bind(d, a, b, core, block, outside),
+            Instr::Give { a, b } => self.give(d, a, b, outside),
+            Instr::Claim { a, b, imm } => self.claim(d, a, b, imm, outside),
             _ => Answer::Fault(4),
         }
     }

@@ -19,7 +19,7 @@ use dc_timers::TimerQueue;
 
 impl<R: ReadyList, T: TimerQueue> Form<R, T> {
     /// Puts the word of a register out.
-    pub(crate) fn out(&mut self, d: DispNo, a: u32, outside: &mut Outside) -> Answer
+    pub(crate) fn print(&mut self, d: DispNo, a: u32, outside: &mut Outside) -> Answer
         requires running { IsRunning d.0 self.old }
         requires proper { IsTrue (is_proper (Out a)) }
         ensures served { (c n time : ℕ) (x : Context) → slice_get self.old.parts.contexts d.0 ≡ Some x → Serves c n (call_of time d.0 x (Out a) self.old.parts) self.old self.new (outside_seen outside.old) (outside_seen outside.new) result }

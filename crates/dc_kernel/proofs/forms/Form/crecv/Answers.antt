@@ -10,13 +10,13 @@ use Rattle.dc_kernel.proofs.CallChannels.{crecv_slots, crecv_faults, crecv_is, c
 use Rattle.dc_kernel.proofs.forms.Form.crecv.Goals as goal
 
 pub between-requires-clause-end : goal.between-requires-clause-end
-between-requires-clause-end g c κs within = (crecv_slots c.args.a c.args.b c.args.imm c.requires.proper).0
+between-requires-clause-end g c = (crecv_slots c.args.a c.args.b c.args.imm c.requires.proper).0
 
 pub between-requires-clause-frame : goal.between-requires-clause-frame
-between-requires-clause-frame g c κs within = (crecv_slots c.args.a c.args.b c.args.imm c.requires.proper).1
+between-requires-clause-frame g c = (crecv_slots c.args.a c.args.b c.args.imm c.requires.proper).1
 
 pub between-requires-clause-imm : goal.between-requires-clause-imm
-between-requires-clause-imm g c κs within = (crecv_slots c.args.a c.args.b c.args.imm c.requires.proper).2
+between-requires-clause-imm g c = (crecv_slots c.args.a c.args.b c.args.imm c.requires.proper).2
 
 pub returns-in-Err-clause-served : goal.returns-in-Err-clause-served
 returns-in-Err-clause-served g c = λ k n time x there. serves_faults k n _ c.args.self.now c.args.self.now _ _ _ (crecv_faults time c.args.d.0 c.args.a c.args.b c.args.imm x c.args.self.now.parts _ c.in-Err.ensures.call) c.trap.ensures
@@ -36,7 +36,7 @@ returns-in_default-pop-clause-served g c = λ k n time x there.
     (serves_held k n _ c.args.self.now c.args.self.now _ _ _ refl (ap channel_outside c.in_default-pop.ensures.kept) (channel_empty k n c.in-Ok.between.end _ _ _ _ is c.in_default-pop.ensures.nothing))
 
 pub go_on-requires-clause-there : goal.go_on-requires-clause-there
-go_on-requires-clause-there g c κs within = subst (λ (y : ControlBlock). c.args.d.0 < length y.parts.contexts) (sym c.self.view_is) (running_within _ _ c.requires.running)
+go_on-requires-clause-there g c = subst (λ (y : ControlBlock). c.args.d.0 < length y.parts.contexts) (sym c.self.view_is) (running_within _ _ c.requires.running)
 
 pub returns-clause-served : goal.returns-clause-served
 returns-clause-served g c = λ k n time x there.

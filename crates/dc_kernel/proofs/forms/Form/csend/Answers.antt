@@ -9,13 +9,13 @@ use Rattle.dc_kernel.proofs.CallChannels.{csend_slots, csend_faults, csend_is, c
 use Rattle.dc_kernel.proofs.forms.Form.csend.Goals as goal
 
 pub between-requires-clause-end : goal.between-requires-clause-end
-between-requires-clause-end g c κs within = (csend_slots c.args.a c.args.b c.args.imm c.requires.proper).0
+between-requires-clause-end g c = (csend_slots c.args.a c.args.b c.args.imm c.requires.proper).0
 
 pub between-requires-clause-frame : goal.between-requires-clause-frame
-between-requires-clause-frame g c κs within = (csend_slots c.args.a c.args.b c.args.imm c.requires.proper).1
+between-requires-clause-frame g c = (csend_slots c.args.a c.args.b c.args.imm c.requires.proper).1
 
 pub between-requires-clause-imm : goal.between-requires-clause-imm
-between-requires-clause-imm g c κs within = (csend_slots c.args.a c.args.b c.args.imm c.requires.proper).2
+between-requires-clause-imm g c = (csend_slots c.args.a c.args.b c.args.imm c.requires.proper).2
 
 pub returns-in-Err-clause-served : goal.returns-in-Err-clause-served
 returns-in-Err-clause-served g c = λ k n time x there. serves_faults k n _ c.args.self.now c.args.self.now _ _ _ (csend_faults time c.args.d.0 c.args.a c.args.b c.args.imm x c.args.self.now.parts _ c.in-Err.ensures.call) c.trap.ensures
@@ -37,7 +37,7 @@ returns-then-is_err-clause-served g c = λ k n time x there.
     (serves_held k n _ c.args.self.now c.args.self.now _ _ _ refl (ap channel_outside (on_err c.push.result err c.push.ensures.kept)) (channel_full k n c.in-Ok.between.end _ _ c.push.result _ c.words_at-m.result _ is err c.push.ensures.refused m))
 
 pub go_on-requires-clause-there : goal.go_on-requires-clause-there
-go_on-requires-clause-there g c κs within = running_within _ _ c.requires.running
+go_on-requires-clause-there g c = running_within _ _ c.requires.running
 
 pub returns-clause-served : goal.returns-clause-served
 returns-clause-served g c = λ k n time x there.

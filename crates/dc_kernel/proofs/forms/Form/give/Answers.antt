@@ -27,7 +27,7 @@ look-requires-2-clause-disp g c =
     disp_below h
 
 pub next_place-requires-clause-there : goal.next_place-requires-clause-there
-next_place-requires-clause-there g c κs within =
+next_place-requires-clause-there g c =
     let f = c.self.inside in
     let h : Runs f.memory.items (map (λ v. v.items) f.code.items) f.ports.items f.table f.agenda c.args.self.now c.args.d.0 = record { seen = c.self.view_is; same = c.self.invariant; run = c.requires.running } in
     disp_there h

@@ -10,13 +10,13 @@ use Rattle.dc_kernel.proofs.CallPorts.{recv_slots, recv_faults, recv_is, recv_ma
 use Rattle.dc_kernel.proofs.forms.Form.recv.Goals as goal
 
 pub between-requires-clause-end : goal.between-requires-clause-end
-between-requires-clause-end g c κs within = (recv_slots c.args.a c.args.b c.args.imm c.requires.proper).0
+between-requires-clause-end g c = (recv_slots c.args.a c.args.b c.args.imm c.requires.proper).0
 
 pub between-requires-clause-frame : goal.between-requires-clause-frame
-between-requires-clause-frame g c κs within = (recv_slots c.args.a c.args.b c.args.imm c.requires.proper).1
+between-requires-clause-frame g c = (recv_slots c.args.a c.args.b c.args.imm c.requires.proper).1
 
 pub between-requires-clause-imm : goal.between-requires-clause-imm
-between-requires-clause-imm g c κs within = (recv_slots c.args.a c.args.b c.args.imm c.requires.proper).2
+between-requires-clause-imm g c = (recv_slots c.args.a c.args.b c.args.imm c.requires.proper).2
 
 pub returns-in-Err : goal.returns-in-Err
 returns-in-Err g c = record { served = λ k n time out x there. serves_faults k n _ c.args.self.now c.args.self.now out _ _ (recv_faults time c.args.d.0 c.args.a c.args.b c.args.imm x c.args.self.now.parts _ c.in-Err.ensures.call) c.trap.ensures }
@@ -34,7 +34,7 @@ returns-in_default g c = record { served = λ k n time out x there.
     }
 
 pub go_on-requires-clause-there : goal.go_on-requires-clause-there
-go_on-requires-clause-there g c κs within = subst (λ (y : ControlBlock). c.args.d.0 < length y.parts.contexts) (sym c.self.view_is) (running_within _ _ c.requires.running)
+go_on-requires-clause-there g c = subst (λ (y : ControlBlock). c.args.d.0 < length y.parts.contexts) (sym c.self.view_is) (running_within _ _ c.requires.running)
 
 pub returns : goal.returns
 returns g c =
