@@ -6,3 +6,4 @@ pub mod CallServed
 pub mod CallPrints
 pub mod CallPorts
 pub mod CallChannels
+pub mod CallSignals
