@@ -7,3 +7,7 @@ pub mod CallPrints
 pub mod CallPorts
 pub mod CallChannels
 pub mod CallSignals
+pub mod AgendaWrites
+pub mod AgendaQueues
+pub mod AgendaWakes
+pub mod AgendaFires
