@@ -19,3 +19,4 @@ pub mod CapsNeeded
 pub mod RunEnds
 pub mod CallChannels
 pub mod LineServed
+pub mod CallSignals
