@@ -1,6 +1,8 @@
 -- The end of a slice, from the end of its plain part.
-use Rattle.std.proofs.Common.{◌≡◌, ℕ, Bool, true, false, Option, Some, None, refl, sym, ap, ◌∙◌, subst}
+use Rattle.std.proofs.Common.{◌≡◌, ℕ, ◌<◌, List, Bool, true, false, Option, Some, None, refl, sym, ap, ◌∙◌, subst}
 use Rattle.std.specs.Prelude.{max, IsTrue, is_some, ◌&&◌, slice_get, slice_set}
+use Rattle.std.proofs.lemmas.List.{length-set}
+use Rattle.std.proofs.lemmas.Option.{slice_get-get_or, slice_get_within}
 use Rattle.dc_base.specs.declared.calls.End.{End}
 use Rattle.dc_base.specs.declared.calls.End.TheVariants as end
 use Rattle.dc_base.specs.declared.calls.Need.{Need}
@@ -18,6 +20,7 @@ use Rattle.dc_base.specs.Serving.{need, serve, nothing_outside}
 use Rattle.dc_base.specs.Serving as seen
 use Rattle.dc_base.specs.Slices.{ready_last, with_state, stops, after_ahead, after_served, with_ahead, need_of, due_after, with_due, slice_end}
 use Rattle.dc_exec.specs.Calls.{call_name, end_at, is_proper_call}
+use Rattle.dc_sound.proofs.Elements.{set_here}
 use Rattle.dc_kernel.specs.declared.drivers.Sliced.{Sliced}
 use Rattle.dc_kernel.specs.declared.outsides.Outside.{Outside}
 use Rattle.dc_kernel.specs.declared.outsides.Outside.TheVariants as outside
@@ -61,7 +64,7 @@ module _ (v : Version) (no : DispNo) (fired time c n : ℕ) (b : ControlBlock) (
 
 -- a proper call has a name
 named_by : (i : Instr) (o : Option Op) → call_name i ≡ o → (b : Bool) → IsTrue (is_some o && b) → (p : Op) × (call_name i ≡ Some p)
-named_by i None q b h = absurd h
+named_by i None q b h = absurd cc
 named_by i (Some p) q b h = (p, q)
 
 pub call_named : (i : Instr) → IsTrue (is_proper_call i) → (p : Op) × (call_name i ≡ Some p)
@@ -73,3 +76,7 @@ need_at time d x a m i o named is e = subst (λ f. m ≡ need_of (after_ahead ti
 
 pub no_need : (time d : ℕ) (x : ControlBlock) (a : plain.Ahead) (e : AheadEnd) → e ≡ a.end → needs.Nothing ≡ need_of (after_ahead time x d a e) → needs.Nothing ≡ need_of (after_ahead time x d a a.end)
 no_need time d x a e is h = subst (λ f. needs.Nothing ≡ need_of (after_ahead time x d a f)) is h
+
+-- what was set at a place that there is, is there
+pub set_there : {A : Type 0} (xs : List A) (i : ℕ) (y z : A) → slice_get (slice_set xs i y) i ≡ Some z → slice_get (slice_set xs i y) i ≡ Some y
+set_there xs i y z e = set_here xs i _ y (slice_get-get_or xs i y (subst (λ n. i < n) (length-set xs i y) (slice_get_within _ _ _ e)))

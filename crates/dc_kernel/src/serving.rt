@@ -42,6 +42,8 @@ impl<R: ReadyList, T: TimerQueue> Form<R, T> {
             Instr::Recv { a, b, imm } => self.recv(d, a, b, imm),
             Instr::Csend { a, b, imm } => self.csend(d, a, b, imm, outside),
             Instr::Crecv { a, b, imm } => self.crecv(d, a, b, imm, outside),
+            Instr::Wait { a, b } => self.wait(d, a, b),
+            Instr::Arm { a, b, imm } => self.arm(d, a, b, imm, time),
             Instr::Copy { a, b, imm } => self.copy(d, a, b, imm),
             Instr::Retype { a, b, imm } => self.retype(d, a, b, imm),
             Instr::Delete { a } => self.delete(d, a),

@@ -11,13 +11,10 @@ use Rattle.dc_kernel.proofs.CallSignals.{arm_fields, arm_faults, arm_full, arm_m
 use Rattle.dc_kernel.proofs.forms.Form.arm.Goals as goal
 
 pub signal-requires-clause-slot : goal.signal-requires-clause-slot
-signal-requires-clause-slot g c κs within = (arm_fields c.args.a c.args.b c.args.imm c.requires.proper).0
+signal-requires-clause-slot g c = (arm_fields c.args.a c.args.b c.args.imm c.requires.proper).0
 
 pub returns-in-Err : goal.returns-in-Err
 returns-in-Err g c = record { served = λ k n out x there. serves_faults k n _ c.args.self.now c.args.self.now out _ _ (arm_faults c.args.time c.args.d.0 c.args.a c.args.b x c.args.self.now.parts c.args.imm _ c.in-Err.ensures.call) c.trap.ensures }
-
-pub disp-requires-after_bounds : goal.disp-requires-after_bounds
-disp-requires-after_bounds g c κs within = disp_within _ _ _ _ c.self.view_is (running_within _ _ c.requires.running)
 
 pub bounds-disp-b : goal.bounds-disp-b
 bounds-disp-b g c = (arm_fields c.args.a c.args.b c.args.imm c.requires.proper).1
@@ -32,14 +29,14 @@ returns-then-is_err g c = record {
 }
 
 pub go_on-requires-clause-there : goal.go_on-requires-clause-there
-go_on-requires-clause-there g c κs within =
+go_on-requires-clause-there g c =
     let ok = ok_of c.arm.result c.is_err.result c.is_err.ensures.value c.if-is_err.false in
     let armed = on_ok c.arm.result ok c.arm.ensures.armed in
     let same : map context_of c.arm.new.self.disps ≡ map context_of c.self.inside.agenda.disps = ap (λ (y : ControlBlock). y.parts.contexts) (armed no_store) in
     subst (λ (cs : List Context). c.args.d.0 < length cs) (sym same) (subst (λ (y : ControlBlock). c.args.d.0 < length y.parts.contexts) (sym c.self.view_is) (running_within _ _ c.requires.running))
 
 pub go_on-requires-clause-places : goal.go_on-requires-clause-places
-go_on-requires-clause-places g c κs within =
+go_on-requires-clause-places g c =
     let ok = ok_of c.arm.result c.is_err.result c.is_err.ensures.value c.if-is_err.false in
     let armed = on_ok c.arm.result ok c.arm.ensures.armed in
     let same : map context_of c.arm.new.self.disps ≡ map context_of c.self.inside.agenda.disps = ap (λ (y : ControlBlock). y.parts.contexts) (armed no_store) in

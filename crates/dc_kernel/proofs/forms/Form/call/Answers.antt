@@ -28,6 +28,12 @@ returns-in-Csend-clause-served g c = λ x there. subst (λ i. Serves c.args.core
 pub returns-in-Crecv-clause-served : goal.returns-in-Crecv-clause-served
 returns-in-Crecv-clause-served g c = λ x there. subst (λ i. Serves c.args.core.0 c.args.block.0 (call_of c.args.time c.args.d.0 x i c.args.self.now.parts) c.args.self.now c.crecv.new.self (outside_seen c.args.outside.now) (outside_seen c.crecv.new.outside) c.crecv.result) (sym c.in-Crecv.is) (c.crecv.ensures.served c.args.core.0 c.args.block.0 c.args.time x there)
 
+pub returns-in-Wait-clause-served : goal.returns-in-Wait-clause-served
+returns-in-Wait-clause-served g c = λ x there. subst (λ i. Serves c.args.core.0 c.args.block.0 (call_of c.args.time c.args.d.0 x i c.args.self.now.parts) c.args.self.now c.wait.new.self (outside_seen c.args.outside.now) (outside_seen c.args.outside.now) c.wait.result) (sym c.in-Wait.is) (c.wait.ensures.served c.args.core.0 c.args.block.0 c.args.time (outside_seen c.args.outside.now) x there)
+
+pub returns-in-Arm-clause-served : goal.returns-in-Arm-clause-served
+returns-in-Arm-clause-served g c = λ x there. subst (λ i. Serves c.args.core.0 c.args.block.0 (call_of c.args.time c.args.d.0 x i c.args.self.now.parts) c.args.self.now c.arm.new.self (outside_seen c.args.outside.now) (outside_seen c.args.outside.now) c.arm.result) (sym c.in-Arm.is) (c.arm.ensures.served c.args.core.0 c.args.block.0 (outside_seen c.args.outside.now) x there)
+
 pub returns-in-Copy-clause-served : goal.returns-in-Copy-clause-served
 returns-in-Copy-clause-served g c = λ x there. subst (λ i. Serves c.args.core.0 c.args.block.0 (call_of c.args.time c.args.d.0 x i c.args.self.now.parts) c.args.self.now c.copy.new.self (outside_seen c.args.outside.now) (outside_seen c.args.outside.now) c.copy.result) (sym c.in-Copy.is) (c.copy.ensures.served c.args.core.0 c.args.block.0 c.args.time (outside_seen c.args.outside.now) x there)
 
@@ -60,6 +66,8 @@ returns-in_default g c = record { served = λ x there. by_instr x c.args.instr.n
     by_instr x (Recv a b imm) e = absurd (c.in_default.not-Recv a b imm e)
     by_instr x (Csend a b imm) e = absurd (c.in_default.not-Csend a b imm e)
     by_instr x (Crecv a b imm) e = absurd (c.in_default.not-Crecv a b imm e)
+    by_instr x (Wait a b) e = absurd (c.in_default.not-Wait a b e)
+    by_instr x (Arm a b imm) e = absurd (c.in_default.not-Arm a b imm e)
     by_instr x (Copy a b imm) e = absurd (c.in_default.not-Copy a b imm e)
     by_instr x (Retype a b imm) e = absurd (c.in_default.not-Retype a b imm e)
     by_instr x (Delete a) e = absurd (c.in_default.not-Delete a e)

@@ -63,8 +63,8 @@ returns-in-Hold-clause-slice g c = λ x o there named.
     let out = outside_seen c.args.outside.now in
     let call = call_of c.args.time c.args.d.0 x c.args.instr.now c.args.self.now.parts in
     let answer : held_up c.in-Hold.w ≡ serve c.args.core.0 c.args.block.0 call out = subst (λ a. answered a c.call.new.self.parts (outside_seen c.call.new.outside) ≡ serve c.args.core.0 c.args.block.0 call out) c.in-Hold.is sv.answer in
-    ap (λ (s : Sliced). sliced_seen c.stand.new.self s (need call) (outside_seen c.call.new.outside)) c.stopped.ensures
-    ∙ hold_ends g.R.ReadyList.policy c.args.d.0 c.args.ran (need call) c.args.self.now c.call.new.self out (outside_seen c.call.new.outside) (serve c.args.core.0 c.args.block.0 call out) c.unwrap.result o (same_Some _ _ (sym c.unwrap.ensures ∙ (c.call_name.ensures ∙ named))) c.stand.new.self c.in-Hold.w answer kept.0 kept.1 c.stand.ensures
+    ap (λ (s : Sliced). sliced_seen c.stand-in-Hold.new.self s (need call) (outside_seen c.call.new.outside)) c.stopped-in-Hold.ensures
+    ∙ hold_ends g.R.ReadyList.policy c.args.d.0 c.args.ran (need call) c.args.self.now c.call.new.self out (outside_seen c.call.new.outside) (serve c.args.core.0 c.args.block.0 call out) c.unwrap-op.result o (same_Some _ _ (sym c.unwrap-op.ensures ∙ (c.call_name.ensures ∙ named))) c.stand-in-Hold.new.self c.in-Hold.w answer kept.0 kept.1 c.stand-in-Hold.ensures
 
 pub returns-in-Made-clause-slice : goal.returns-in-Made-clause-slice
 returns-in-Made-clause-slice g c = λ x o there named.
@@ -72,4 +72,4 @@ returns-in-Made-clause-slice g c = λ x o there named.
     let out = outside_seen c.args.outside.now in
     let call = call_of c.args.time c.args.d.0 x c.args.instr.now c.args.self.now.parts in
     let answer : served c.in-Made.wakes c.call.new.self.parts (outside_seen c.call.new.outside) ≡ serve c.args.core.0 c.args.block.0 call out = subst (λ a. answered a c.call.new.self.parts (outside_seen c.call.new.outside) ≡ serve c.args.core.0 c.args.block.0 call out) c.in-Made.is sv.answer in
-    made_ends g.R.ReadyList.policy c.args.d.0 c.args.ran (need call) c.args.self.now c.call.new.self out (outside_seen c.call.new.outside) (serve c.args.core.0 c.args.block.0 call out) c.unwrap.result o (same_Some _ _ (sym c.unwrap.ensures ∙ (c.call_name.ensures ∙ named))) c.stay_ready.new.self c.wake_if.new.self c.in-Made.wakes answer sv.rest c.wake_if.ensures c.stay_ready.ensures
+    made_ends g.R.ReadyList.policy c.args.d.0 c.args.ran (need call) c.args.self.now c.call.new.self out (outside_seen c.call.new.outside) (serve c.args.core.0 c.args.block.0 call out) c.unwrap-op.result o (same_Some _ _ (sym c.unwrap-op.ensures ∙ (c.call_name.ensures ∙ named))) c.stay_ready.new.self c.wake_if.new.self c.in-Made.wakes answer sv.rest c.wake_if.ensures c.stay_ready.ensures
