@@ -20,3 +20,5 @@ pub mod RunEnds
 pub mod CallChannels
 pub mod LineServed
 pub mod CallSignals
+pub mod FiredParts
+pub mod Going

@@ -1,25 +1,21 @@
 //! One kernel over any ready list and any queue of timers.
 
-ghost use Rattle.std.specs.Prelude.{◌≡◌, ◌<◌, ◌≤◌, ◌^◌, ℕ, List, Some, length, slice_get};
-ghost use Rattle.dc_base.specs.declared.calls.Need.{Need as Needed};
-ghost use Rattle.dc_base.specs.Kernel.{call_of};
-ghost use Rattle.dc_base.specs.Parts.{Parts as Fields};
+ghost use Rattle.std.specs.Prelude.{◌≡◌, None};
+ghost use Rattle.dc_base.specs.declared.calls.End.TheVariants as end;
 ghost use Rattle.dc_kernel.specs.Slices.{OffersWithin};
 
 use crate::drivers::{Driver, Forward, Sliced};
 use crate::forms::Form;
 use crate::outsides::Outside;
 use dc_base::calls::{End, Need};
-use dc_base::dispatchers::Wait;
 use dc_base::interrupts::{Latch, Latched};
 use dc_base::kernels::Version;
 use dc_base::numbers::{BlockNo, CoreNo, DispNo, SignalNo};
-use dc_exec::{Ahead, AheadEnd};
 use dc_kcb::Kcb;
 use dc_ready::ReadyList;
 use dc_sound::{
     aheads_keep_controls, firing_keeps_controls, latching_keeps_controls, picked_is_ready,
-    slices_keep_controls, waking_keeps_controls,
+    ready_stand_once, slices_keep_controls, waking_keeps_controls,
 };
 use dc_timers::{Clock, TimerQueue};
 use std::marker::Model;
@@ -40,6 +36,19 @@ impl<R: ReadyList, T: TimerQueue> Model for Kernel<R, T> {
     ghost view = { λ k. record { control = k.form; offset = k.clock; version = R.policy } };
 
     ghost invariant = { λ k. IsKept k.form k.clock };
+}
+
+/// A slice in which timers fired, and no dispatcher was ready.
+fn empty(fired: u32) -> Sliced
+    ensures { result ≡ record { disp = None; fired = fired; ran = 0; end = end.Empty; advance = 1 } }
+{
+    Sliced {
+        disp: None,
+        fired,
+        ran: 0,
+        end: End::Empty,
+        advance: 1,
+    }
 }
 
 /// The rights of an offered line are at most 7.
@@ -127,22 +136,20 @@ impl<R: ReadyList + Send + Sync, T: TimerQueue + Send + Sync> Driver for Kernel<
         picked_is_ready();
         aheads_keep_controls();
         slices_keep_controls();
+        ready_stand_once();
         offers_are_within(&outside);
         let mut outside = outside;
         let time = self.clock.time(now);
         let fired = self.form.fire(time);
-        let sliced = match (forward.disp, &forward.ahead) {
-            (Some(d), Some(ahead)) => {
-                self.form.run(d, fired, ahead, time, core, block, &mut outside)
-            }
-            _ => Sliced {
-                disp: None,
-                fired,
-                ran: 0,
-                end: End::Empty,
-                advance: 1,
-            },
+        let Some(d) = forward.disp else {
+            return (empty(fired), outside);
         };
+        let Some(ahead) = &forward.ahead else {
+            return (empty(fired), outside);
+        };
+        let sliced = self
+            .form
+            .run(d, fired, ahead, time, core, block, &mut outside);
         (sliced, outside)
     }
 

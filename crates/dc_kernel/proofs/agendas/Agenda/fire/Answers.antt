@@ -10,8 +10,8 @@ use Rattle.dc_kernel.proofs.agendas.Agenda.fire.Goals as goal
 pub loop-t-init : goal.loop-t-init
 loop-t-init g c = record { named = c.requires.named; room = omega arith; size = refl; control = λ st. fired-none (fire_all c.args.time (control_of st c.args.self.now)) }
 
-pub latch-requires-clause-there : goal.latch-requires-clause-there
-latch-requires-clause-there g c =
+pub latch-requires : goal.latch-requires
+latch-requires g c =
     let due : due_timer c.args.time c.loop-t.self.timers ≡ Some c.in-Some.t = sym c.take_due.ensures.which ∙ c.in-Some.is in
     let named : c.in-Some.t.signal.0 < length c.loop-t.self.signals = due-named c.args.time c.loop-t.self.timers c.in-Some.t (length c.loop-t.self.signals) due c.loop-t.invariant.named in
     let same = ap (λ (a : Agenda). length a.signals) c.take_due.ensures.rest in
