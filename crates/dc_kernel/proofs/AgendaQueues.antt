@@ -1,6 +1,7 @@
 -- The ready list of an agenda agrees with its dispatchers after a change.
-use Rattle.std.proofs.Common.{◌≡◌, ℕ, zero, suc, ◌<◌, List, [], ◌∷◌, ◌++◌, Bool, true, false, cond, not, Option, Some, None, refl, sym, ap, ◌∙◌, subst, length, map, arith}
+use Rattle.std.proofs.Common.{◌≡◌, ℕ, zero, suc, ◌<◌, ◌≤◌, List, [], ◌∷◌, ◌++◌, Bool, true, false, cond, not, Option, Some, None, refl, sym, ap, ◌∙◌, subst, length, map, arith}
 use Rattle.std.specs.Prelude.{slice_get, slice_set, slice_index_or, ◌==◌, ◌||◌}
+use Rattle.std.specs.List.{refill}
 use Rattle.std.proofs.lemmas.Bool.{eqb-true, eqb-false, ne_eqb, or_parts, or_from, cases_Bool}
 use Rattle.std.proofs.lemmas.Option.{none-some, same_Some}
 use Rattle.std.proofs.lemmas.List.{map-set}
@@ -16,7 +17,7 @@ use Rattle.dc_sound.proofs.Ascending.{each_filter}
 use Rattle.dc_sound.proofs.Elements.{set_other}
 use Rattle.dc_kcb.specs.Controls.{Agenda, state_of, due_of}
 use Rattle.dc_kernel.specs.Queued.{AreQueued}
-use Rattle.dc_kernel.proofs.AgendaWrites.{map-kept, blank, written}
+use Rattle.dc_kernel.proofs.AgendaWrites.{map-kept, blank, written, put-written, there, due-there}
 
 pub dispatchers-without : (d : ℕ) (es : List (ℕ × ℕ)) → dispatchers (without_disp d es) ≡ without d (dispatchers es)
 dispatchers-without d [] = refl
@@ -82,8 +83,33 @@ module _ (ds : List Dispatcher) (ready : List (ℕ × ℕ)) (queued : AreQueued 
   pub waits-unlisted : (d : ℕ) (w : Wait) → slice_get (map state_of ds) d ≡ Some (disp.Waits w) → lists (dispatchers ready) d ≡ false
   waits-unlisted d w waits = unlisted d ready (λ i e there. ne_eqb e.0 d (λ is. let r : slice_get (map state_of ds) d ≡ Some disp.Ready = ap (slice_get (map state_of ds)) (sym is) ∙ queued.states i e there in absurd cc))
 
--- the same of an agenda as its contracts see it
-pub waits-absent : (inside now : Agenda) → inside ≡ now → AreQueued inside.disps inside.ready → (d : ℕ) (w : Wait) → slice_get (map state_of now.disps) d ≡ Some (disp.Waits w) → lists (dispatchers now.ready) d ≡ false
-waits-absent inside now same queued d w waits =
-    ap (λ (a : Agenda). lists (dispatchers a.ready) d) (sym same)
-    ∙ waits-unlisted inside.disps inside.ready queued d w (ap (λ (a : Agenda). slice_get (map state_of a.disps) d) same ∙ waits)
+-- the same as a function's contract sees it: the fields before it and the agenda that they are
+module _ (inside now : Agenda) (same : inside ≡ now) (queued : AreQueued inside.disps inside.ready) (d : ℕ) where
+  was_absent : lists (dispatchers now.ready) d ≡ false → lists (dispatchers inside.ready) d ≡ false
+  was_absent absent = ap (λ (a : Agenda). lists (dispatchers a.ready) d) same ∙ absent
+
+  pub waits-absent : (w : Wait) → slice_get (map state_of now.disps) d ≡ Some (disp.Waits w) → lists (dispatchers now.ready) d ≡ false
+  waits-absent w waits =
+      ap (λ (a : Agenda). lists (dispatchers a.ready) d) (sym same)
+      ∙ waits-unlisted inside.disps inside.ready queued d w (ap (λ (a : Agenda). slice_get (map state_of a.disps) d) same ∙ waits)
+
+  pub queue-push : (zs : List Dispatcher) (ready : List (ℕ × ℕ)) → zs ≡ inside.disps → length zs ≤ 16 → lists (dispatchers now.ready) d ≡ false → slice_get (map state_of now.disps) d ≡ Some disp.Ready →
+      ready ≡ inside.ready ++ (d, (slice_index_or zs d blank).due) ∷ [] → AreQueued inside.disps ready
+  queue-push zs ready lent most absent is_ready e =
+      let here : slice_get (map state_of inside.disps) d ≡ Some disp.Ready = ap (λ (a : Agenda). slice_get (map state_of a.disps) d) same ∙ is_ready in
+      let lt : d < length inside.disps = there inside.disps d disp.Ready here in
+      let long = ap length lent in
+      subst (AreQueued inside.disps) (sym e) (queued-push inside.disps inside.ready queued d (slice_index_or zs d blank).due (omega arith) (was_absent absent) (due-there inside.disps d zs lent lt) here)
+
+  module _ (zs : List Dispatcher) (lent : zs ≡ inside.disps) (f : Dispatcher → Dispatcher) where
+    back : AreQueued (written f d inside.disps) inside.ready → AreQueued (refill (length inside.disps) inside.disps (written f d zs)) inside.ready
+    back h = subst (λ ds. AreQueued ds inside.ready) (sym (put-written inside.disps zs lent f d)) h
+
+    pub queue-state : lists (dispatchers now.ready) d ≡ false → ((x : Dispatcher) → (f x).due ≡ x.due) → AreQueued (refill (length inside.disps) inside.disps (written f d zs)) inside.ready
+    queue-state absent keeps = back (queued-state inside.disps inside.ready queued f d (was_absent absent) keeps)
+
+    pub queue-due : lists (dispatchers now.ready) d ≡ false → ((x : Dispatcher) → (f x).state ≡ x.state) → AreQueued (refill (length inside.disps) inside.disps (written f d zs)) inside.ready
+    queue-due absent keeps = back (queued-due inside.disps inside.ready queued f d (was_absent absent) keeps)
+
+    pub queue-context : ((x : Dispatcher) → (f x).due ≡ x.due) → ((x : Dispatcher) → (f x).state ≡ x.state) → AreQueued (refill (length inside.disps) inside.disps (written f d zs)) inside.ready
+    queue-context due state = back (queued-context inside.disps inside.ready queued f d due state)
