@@ -8,6 +8,7 @@ use Rattle.std.proofs.lemmas.List.{map-set}
 use Rattle.dc_base.specs.declared.dispatchers.DispState.{DispState}
 use Rattle.dc_base.specs.declared.dispatchers.DispState.TheVariants as disp
 use Rattle.dc_base.specs.declared.dispatchers.Wait.{Wait}
+use Rattle.dc_base.specs.Slices.{without_ready}
 use Rattle.dc_base.specs.Words.{Each, lists, without}
 use Rattle.dc_base.proofs.EachLaws.{each-append}
 use Rattle.dc_isa.specs.declared.dispatchers.Dispatcher.{Dispatcher}
@@ -15,20 +16,16 @@ use Rattle.dc_ready.specs.Entries.{dispatchers, without_disp, AreOnceBelow, IsRe
 use Rattle.dc_ready.proofs.Listed.{once-push, once-without}
 use Rattle.dc_sound.proofs.Ascending.{each_filter}
 use Rattle.dc_sound.proofs.Elements.{set_other}
-use Rattle.dc_kcb.specs.Controls.{Agenda, state_of, due_of}
+use Rattle.dc_kcb.specs.Controls.{Store, Agenda, control_of, state_of, due_of}
 use Rattle.dc_kernel.specs.Queued.{AreQueued}
 use Rattle.dc_kernel.proofs.AgendaWrites.{map-kept, blank, written, put-written, there, due-there}
 
-pub dispatchers-without : (d : ℕ) (es : List (ℕ × ℕ)) → dispatchers (without_disp d es) ≡ without d (dispatchers es)
+dispatchers-without : (d : ℕ) (es : List (ℕ × ℕ)) → dispatchers (without_disp d es) ≡ without d (dispatchers es)
 dispatchers-without d [] = refl
 dispatchers-without d (e ∷ es) =
     let rest = dispatchers-without d es in
     elim (e.0 == d) as (λ b. dispatchers (cond (not b) (e ∷ without_disp d es) (without_disp d es)) ≡ cond (not b) (e.0 ∷ without d (dispatchers es)) (without d (dispatchers es)))
     [ true ↦ rest | false ↦ ap (λ l. e.0 ∷ l) rest ]
-
-pub dispatchers-push : (es : List (ℕ × ℕ)) (e : ℕ × ℕ) → dispatchers (es ++ e ∷ []) ≡ dispatchers es ++ e.0 ∷ []
-dispatchers-push [] e = refl
-dispatchers-push (f ∷ es) e = ap (λ l. f.0 ∷ l) (dispatchers-push es e)
 
 -- a dispatcher that is not listed is none of the listed
 others : (d : ℕ) (es : List (ℕ × ℕ)) → lists (dispatchers es) d ≡ false → Each es (λ i (e : ℕ × ℕ). (e.0 == d) ≡ false)
@@ -100,6 +97,14 @@ module _ (inside now : Agenda) (same : inside ≡ now) (queued : AreQueued insid
       let lt : d < length inside.disps = there inside.disps d disp.Ready here in
       let long = ap length lent in
       subst (AreQueued inside.disps) (sym e) (queued-push inside.disps inside.ready queued d (slice_index_or zs d blank).due (omega arith) (was_absent absent) (due-there inside.disps d zs lent lt) here)
+
+  pub queue-without : (ready : List (ℕ × ℕ)) → ready ≡ without_disp d inside.ready → AreQueued inside.disps ready
+  queue-without ready e = subst (AreQueued inside.disps) (sym e) (queued-without inside.disps inside.ready queued d)
+
+  pub control-without : (ready : List (ℕ × ℕ)) → ready ≡ without_disp d inside.ready → (s : Store) → control_of s (record inside { ready = ready }) ≡ without_ready d (control_of s now)
+  control-without ready e s =
+      ap (λ ds. record (control_of s inside) { ready = ds }) (ap dispatchers e ∙ dispatchers-without d inside.ready)
+      ∙ ap (λ (a : Agenda). without_ready d (control_of s a)) same
 
   module _ (zs : List Dispatcher) (lent : zs ≡ inside.disps) (f : Dispatcher → Dispatcher) where
     back : AreQueued (written f d inside.disps) inside.ready → AreQueued (refill (length inside.disps) inside.disps (written f d zs)) inside.ready

@@ -1,6 +1,7 @@
 -- Waiting dispatchers that wake one after another.
 use Rattle.std.proofs.Common.{◌≡◌, ℕ, zero, suc, ◌+◌, ◌<◌, ◌≤◌, List, [], ◌∷◌, ◌++◌, Bool, true, false, cond, Option, Some, None, refl, sym, ap, ◌∙◌, subst, length, map, take, drop, get_or, arith}
-use Rattle.std.specs.Prelude.{slice_get, slice_set, ◌==◌}
+use Rattle.std.specs.Prelude.{slice_get, slice_set, slice_index_or}
+use Rattle.std.specs.List.{refill}
 use Rattle.std.specs.Option.{option_map_or}
 use Rattle.std.proofs.lemmas.List.{append_assoc, append-nil, drop_more, take_more, take_more_set, drop-set-lt, drop_all, take_all}
 use Rattle.std.proofs.lemmas.Option.{none-some, same_Some, slice_get_within, get_or_from_slice_get, slice_get-get_or}
@@ -12,8 +13,10 @@ use Rattle.dc_base.specs.declared.interrupts.Latch.{Latch}
 use Rattle.dc_base.specs.Ports.{signal_after, signals_after}
 use Rattle.dc_base.specs.Words.{change}
 use Rattle.dc_base.specs.ControlBlocks.{ControlBlock}
-use Rattle.dc_base.specs.Firing.{same_wait, waits_so, waiters_from, state_after_wake, wake}
+use Rattle.dc_base.specs.Firing.{same_wait, waits_so, waiters_from, state_after_wake, wake, latch_in}
 use Rattle.dc_base.specs.Wakes.{ready_again}
+use Rattle.dc_kcb.specs.Controls.{Store, Agenda, control_of}
+use Rattle.dc_kernel.proofs.AgendaWrites.{no_store, signal-latched}
 
 -- whether dispatcher d waits so
 abbrev pub waits_at : Wait → List DispState → ℕ → Bool
@@ -97,19 +100,29 @@ module _ (i : ℕ) (w : Wait) (b : ControlBlock) (s : DispState) (here : slice_g
       ∙ ap (λ l. b.ready ++ l) (one ∙ ap (waiters_from i w) (sym begins)) in
       λ j. record b { states = states j; ready = ready j }
 
--- the parts stay
-pub signals-woken : (w : Wait) (b : ControlBlock) → (wake w b).parts.signals ≡ b.parts.signals
-unfolding wake
-signals-woken w b = refl
-
 length-change : {X : Type 0} (f : X → X) (i : ℕ) (xs : List X) → length (change f i xs) ≡ length xs
 length-change f i [] = refl
 length-change f zero (x ∷ xs) = refl
 length-change f (suc i) (x ∷ xs) = ap suc (length-change f i xs)
 
-pub signals-latched : (s : ℕ) (l : Latch) (os : List (Option Latch)) → length (signals_after s l os) ≡ length os
-unfolding signals_after
-signals-latched s l os = length-change (signal_after l) s os
+signals-latched : (s : ℕ) (l : Latch) (b : ControlBlock) → length (latch_in s l b).parts.signals ≡ length b.parts.signals
+unfolding latch_in wake signals_after
+signals-latched s l b = length-change (signal_after l) s b.parts.signals
+
+-- a latch comes to a signal as a function's contract sees it: the fields before it, the agenda that they are, and the signals as they were lent
+module _ (inside now : Agenda) (same : inside ≡ now) (zs : List (Option Latch)) (lent : zs ≡ inside.signals) (s : ℕ) (l : Latch) (d x : Option Latch) (after : x ≡ signal_after l (slice_index_or zs s d)) (new : Agenda) where
+  abbrev put_back : Store → ControlBlock
+  put_back st = control_of st (record inside { signals = refill (length inside.signals) inside.signals (slice_set zs s x) })
+
+  pub latch-put : (st : Store) → control_of st new ≡ wake (wait.Signal (record { 0 = s })) (put_back st) → control_of st new ≡ latch_in s l (control_of st now)
+  unfolding latch_in
+  latch-put st woken =
+      woken
+      ∙ ap (λ os. wake (wait.Signal (record { 0 = s })) (control_of st (record inside { signals = os }))) (signal-latched inside.signals zs lent s l d x after)
+      ∙ ap (λ (a : Agenda). latch_in s l (control_of st a)) same
+
+  pub latch-length : control_of no_store new ≡ wake (wait.Signal (record { 0 = s })) (put_back no_store) → length new.signals ≡ length now.signals
+  latch-length woken = ap (λ (b : ControlBlock). length b.parts.signals) (latch-put no_store woken) ∙ signals-latched s l (control_of no_store now)
 
 -- one step of the wakes: the dispatcher at i wakes where it waits so, and else stays
 pub woken-step : (i : ℕ) (w : Wait) (b : ControlBlock) (t : Bool) → i < length b.states → waits_at w b.states i ≡ t → rest_woken (i + 1) w (cond t (ready_again i b) b) ≡ rest_woken i w b
