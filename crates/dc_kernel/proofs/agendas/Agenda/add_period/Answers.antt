@@ -1,13 +1,8 @@
-use Rattle.std.proofs.Common.{◌≡◌, ◌<◌, ◌^◌, List, false, ap, sym, ◌∙◌, refl, subst, length, map, arith}
+use Rattle.std.proofs.Common.{◌<◌, ◌^◌, ap, sym, refl, subst, length, map, arith}
 use Rattle.std.specs.Prelude.{slice_index_or}
-use Rattle.dc_kcb.specs.Controls.{Agenda, control_of, due_of, state_of}
-use Rattle.dc_base.specs.declared.kernels.Version.TheVariants.{Edf}
-use Rattle.dc_base.specs.Slices.{due_after}
-use Rattle.dc_base.specs.Words.{lists, Each}
-use Rattle.dc_isa.specs.declared.dispatchers.Dispatcher.{Dispatcher}
-use Rattle.dc_ready.specs.Entries.{dispatchers}
-use Rattle.dc_kernel.specs.Queued.{AreQueued}
-use Rattle.dc_kernel.proofs.AgendaWrites.{put-written, later_by, with_disps, written, blank, due-put, due-below, no_store}
+use Rattle.dc_kcb.specs.Controls.{Agenda, due_of}
+use Rattle.dc_base.specs.Words.{Each}
+use Rattle.dc_kernel.proofs.AgendaWrites.{later_by, blank, due-put, due-below, no_store}
 use Rattle.dc_kernel.proofs.AgendaQueues.{queue-due}
 use Rattle.dc_base.specs.ControlBlocks.{ControlBlock}
 use Rattle.dc_kernel.proofs.agendas.Agenda.add_period.Goals as goal
