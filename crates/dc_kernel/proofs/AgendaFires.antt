@@ -1,6 +1,6 @@
 -- Timers that fire one after another.
 use Rattle.std.proofs.Common.{◌≡◌, ℕ, zero, suc, ◌+◌, ◌<◌, ◌≤◌, List, [], ◌∷◌, Bool, true, false, cond, not, Option, Some, None, refl, sym, ap, ◌∙◌, subst, length, arith}
-use Rattle.std.specs.Prelude.{slice_get, ◌==◌, filter, if◌then◌else◌, is_some}
+use Rattle.std.specs.Prelude.{slice_get, ◌==◌, if◌then◌else◌, is_some}
 use Rattle.std.proofs.lemmas.Bool.{eq-eqb}
 use Rattle.std.proofs.lemmas.Option.{none-some, same_Some}
 use Rattle.dc_base.specs.declared.interrupts.Timer.{Timer}
@@ -157,6 +157,9 @@ module _ (time : ℕ) (old mid : Agenda) (o : Option Timer) (which : o ≡ due_t
 
       pub fewer-armed : length new.timers < length old.timers
       fewer-armed = let less = due-shorter time old.timers t due in let same = ap length left in omega (arith, less, same)
+
+      pub size-after : (n : ℕ) → length new.disps ≡ length mid.disps → length old.disps ≡ n → length new.disps ≡ n
+      size-after n size so_far = size ∙ ap (λ (a : Agenda). length a.disps) rest ∙ so_far
 
       pub named-after : length new.signals ≡ length mid.signals → AreNamed old.timers (length old.signals) → AreNamed new.timers (length new.signals)
       named-after size named = named-without old.timers new.timers t (length old.signals) (length new.signals) left (size ∙ ap (λ (a : Agenda). length a.signals) rest) named

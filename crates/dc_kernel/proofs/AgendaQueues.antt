@@ -1,18 +1,17 @@
 -- The ready list of an agenda agrees with its dispatchers after a change.
-use Rattle.std.proofs.Common.{◌≡◌, ℕ, zero, suc, ◌<◌, ◌≤◌, List, [], ◌∷◌, ◌++◌, Bool, true, false, cond, not, Option, Some, None, refl, sym, ap, ◌∙◌, subst, length, map, arith}
-use Rattle.std.specs.Prelude.{slice_get, slice_set, slice_index_or, ◌==◌, ◌||◌}
+use Rattle.std.proofs.Common.{◌≡◌, ℕ, zero, suc, ◌<◌, ◌≤◌, List, [], ◌∷◌, ◌++◌, true, false, cond, not, Some, refl, sym, ap, ◌∙◌, subst, length, map, arith}
+use Rattle.std.specs.Prelude.{slice_get, slice_index_or, ◌==◌}
 use Rattle.std.specs.List.{refill}
-use Rattle.std.proofs.lemmas.Bool.{eqb-true, eqb-false, ne_eqb, or_parts, or_from, cases_Bool}
+use Rattle.std.proofs.lemmas.Bool.{eqb-false, ne_eqb, or_parts, or_from}
 use Rattle.std.proofs.lemmas.Option.{none-some, same_Some}
 use Rattle.std.proofs.lemmas.List.{map-set}
-use Rattle.dc_base.specs.declared.dispatchers.DispState.{DispState}
 use Rattle.dc_base.specs.declared.dispatchers.DispState.TheVariants as disp
 use Rattle.dc_base.specs.declared.dispatchers.Wait.{Wait}
 use Rattle.dc_base.specs.Slices.{without_ready}
 use Rattle.dc_base.specs.Words.{Each, lists, without}
 use Rattle.dc_base.proofs.EachLaws.{each-append}
 use Rattle.dc_isa.specs.declared.dispatchers.Dispatcher.{Dispatcher}
-use Rattle.dc_ready.specs.Entries.{dispatchers, without_disp, AreOnceBelow, IsReadyList}
+use Rattle.dc_ready.specs.Entries.{dispatchers, without_disp}
 use Rattle.dc_ready.proofs.Listed.{once-push, once-without}
 use Rattle.dc_sound.proofs.Ascending.{each_filter}
 use Rattle.dc_sound.proofs.Elements.{set_other}

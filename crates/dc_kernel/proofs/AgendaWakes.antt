@@ -1,10 +1,10 @@
 -- Waiting dispatchers that wake one after another.
-use Rattle.std.proofs.Common.{◌≡◌, ℕ, zero, suc, ◌+◌, ◌<◌, ◌≤◌, List, [], ◌∷◌, ◌++◌, Bool, true, false, cond, Option, Some, None, refl, sym, ap, ◌∙◌, subst, length, map, take, drop, get_or, arith}
+use Rattle.std.proofs.Common.{◌≡◌, ℕ, zero, suc, ◌+◌, ◌<◌, ◌≤◌, List, [], ◌∷◌, ◌++◌, Bool, true, false, cond, Option, Some, refl, sym, ap, ◌∙◌, length, map, take, drop, get_or, arith}
 use Rattle.std.specs.Prelude.{slice_get, slice_set, slice_index_or}
 use Rattle.std.specs.List.{refill}
 use Rattle.std.specs.Option.{option_map_or}
 use Rattle.std.proofs.lemmas.List.{length-map, append_assoc, append-nil, drop_more, take_more, take_more_set, drop-set-lt, drop_all, take_all}
-use Rattle.std.proofs.lemmas.Option.{none-some, same_Some, slice_get_within, get_or_from_slice_get, slice_get-get_or}
+use Rattle.std.proofs.lemmas.Option.{slice_get_within, get_or_from_slice_get, slice_get-get_or}
 use Rattle.dc_base.specs.declared.dispatchers.DispState.{DispState}
 use Rattle.dc_base.specs.declared.dispatchers.DispState.TheVariants as disp
 use Rattle.dc_base.specs.declared.dispatchers.Wait.{Wait}
@@ -13,7 +13,7 @@ use Rattle.dc_base.specs.declared.interrupts.Latch.{Latch}
 use Rattle.dc_base.specs.Ports.{signal_after, signals_after}
 use Rattle.dc_base.specs.Words.{change}
 use Rattle.dc_base.specs.ControlBlocks.{ControlBlock}
-use Rattle.dc_base.specs.Firing.{same_wait, waits_so, waiters_from, state_after_wake, wake, latch_in}
+use Rattle.dc_base.specs.Firing.{waits_so, waiters_from, state_after_wake, wake, latch_in}
 use Rattle.dc_base.specs.Wakes.{ready_again}
 use Rattle.dc_kcb.specs.Controls.{Store, Agenda, control_of, state_of}
 use Rattle.dc_kernel.proofs.AgendaWrites.{no_store, signal-latched}

@@ -1,7 +1,7 @@
-use Rattle.std.proofs.Common.{◌<◌, length, ap, ◌∙◌, refl, arith}
+use Rattle.std.proofs.Common.{◌<◌, length, refl, arith}
 use Rattle.dc_base.specs.Firing.{fire_all}
-use Rattle.dc_kcb.specs.Controls.{Agenda, control_of}
-use Rattle.dc_kernel.proofs.AgendaFires.{fired-none, named-signal, fewer-armed, named-after, fired-after, fired-end}
+use Rattle.dc_kcb.specs.Controls.{control_of}
+use Rattle.dc_kernel.proofs.AgendaFires.{fired-none, named-signal, fewer-armed, size-after, named-after, fired-after, fired-end}
 use Rattle.dc_kernel.proofs.agendas.Agenda.fire.Goals as goal
 
 pub loop-t-init : goal.loop-t-init
@@ -16,7 +16,7 @@ loop-t-preserved g c =
     record {
       named = named-after c.args.time c.loop-t.self c.take_due.new.self c.take_due.result c.take_due.ensures.which c.take_due.ensures.rest c.in-Some.t c.in-Some.is c.latch.new.self c.latch.ensures.control c.latch.ensures.signals c.loop-t.invariant.named;
       room = omega (arith, less, c.loop-t.invariant.room);
-      size = c.latch.ensures.size ∙ ap (λ (a : Agenda). length a.disps) c.take_due.ensures.rest ∙ c.loop-t.invariant.size;
+      size = size-after c.args.time c.loop-t.self c.take_due.new.self c.take_due.result c.take_due.ensures.which c.take_due.ensures.rest c.in-Some.t c.in-Some.is c.latch.new.self c.latch.ensures.control (length c.args.self.now.disps) c.latch.ensures.size c.loop-t.invariant.size;
       control = λ st. fired-after c.args.time c.loop-t.self c.take_due.new.self c.take_due.result c.take_due.ensures.which c.take_due.ensures.rest c.in-Some.t c.in-Some.is c.latch.new.self c.latch.ensures.control c.loop-t.count st (fire_all c.args.time (control_of st c.args.self.now)) (c.loop-t.invariant.control st);
     }
 
