@@ -1,6 +1,6 @@
 -- Timers that fire one after another.
 use Rattle.std.proofs.Common.{◌≡◌, ℕ, zero, suc, ◌+◌, ◌<◌, ◌≤◌, List, [], ◌∷◌, Bool, true, false, cond, not, Option, Some, None, refl, sym, ap, ◌∙◌, subst, length, arith}
-use Rattle.std.specs.Prelude.{slice_get, ◌==◌, filter, if◌then◌else◌, is_some}
+use Rattle.std.specs.Prelude.{slice_get, ◌==◌, if◌then◌else◌, is_some}
 use Rattle.std.proofs.lemmas.Bool.{eq-eqb}
 use Rattle.std.proofs.lemmas.Option.{none-some, same_Some}
 use Rattle.dc_base.specs.declared.interrupts.Timer.{Timer}
@@ -11,6 +11,7 @@ use Rattle.dc_base.specs.declared.interrupts.Source.TheVariants as source
 use Rattle.dc_base.specs.Words.{Each}
 use Rattle.dc_timers.specs.Numbers.{without_fired}
 use Rattle.dc_kcb.specs.Controls.{Store, Agenda, control_of}
+use Rattle.dc_kernel.proofs.AgendaWrites.{no_store}
 use Rattle.dc_sound.proofs.Ascending.{each_filter}
 use Rattle.dc_timers.proofs.Least.{soonest-there}
 
@@ -27,7 +28,7 @@ due-soonest time ts t h = by_soonest (soonest ts) h
     by_soonest (Some u) g = by_test u _ g
 
 -- a due timer is armed
-pub due-there : (time : ℕ) (ts : List Timer) (t : Timer) → due_timer time ts ≡ Some t → (j : ℕ) × (slice_get ts j ≡ Some t)
+due-there : (time : ℕ) (ts : List Timer) (t : Timer) → due_timer time ts ≡ Some t → (j : ℕ) × (slice_get ts j ≡ Some t)
 due-there time ts t h = soonest-there ts t (due-soonest time ts t h)
 
 none-due : (time : ℕ) (ts : List Timer) → length ts ≤ 0 → due_timer time ts ≡ None
@@ -51,7 +52,7 @@ without-lt t (u ∷ us) (suc j) e =
     let less = without-lt t us j e in
     elim (u.number == t.number) as (λ b. length (cond (not b) (u ∷ without_timer t us) (without_timer t us)) < suc (length us)) [ true ↦ omega (arith, less) | false ↦ omega (arith, less) ]
 
-pub due-shorter : (time : ℕ) (ts : List Timer) (t : Timer) → due_timer time ts ≡ Some t → length (without_timer t ts) < length ts
+due-shorter : (time : ℕ) (ts : List Timer) (t : Timer) → due_timer time ts ≡ Some t → length (without_timer t ts) < length ts
 due-shorter time ts t h = let k = due-there time ts t h in without-lt t ts k.0 k.1
 
 timers-after : (t : Timer) (b : ControlBlock) → (after_firing t b).parts.timers ≡ without_timer t b.parts.timers
@@ -79,7 +80,7 @@ module _ (time : ℕ) where
   stops_by (suc n) b e = ap (fire_if (fire_from time n) b) e
 
   -- no timer is due
-  pub fire-none : (b : ControlBlock) → due_timer time b.parts.timers ≡ None → fire_all time b ≡ record { control = b; count = 0 }
+  fire-none : (b : ControlBlock) → due_timer time b.parts.timers ≡ None → fire_all time b ≡ record { control = b; count = 0 }
   unfolding fire_all
   fire-none b e = stops_by (length b.parts.timers) b e
 
@@ -99,7 +100,7 @@ module _ (time : ℕ) where
       ∙ ap one_more_fired (enough n (length (after_firing t b).parts.timers) (after_firing t b) (omega (arith, less, left, s)) (omega arith))
 
   -- the first of the due timers fires
-  pub fire-first : (b : ControlBlock) (t : Timer) → due_timer time b.parts.timers ≡ Some t → fire_all time b ≡ one_more_fired (fire_all time (after_firing t b))
+  fire-first : (b : ControlBlock) (t : Timer) → due_timer time b.parts.timers ≡ Some t → fire_all time b ≡ one_more_fired (fire_all time (after_firing t b))
   unfolding fire_all
   fire-first b t e = goes_by (length b.parts.timers) b t e refl
 
@@ -110,13 +111,13 @@ after_fired n f = record f { count = n + f.count }
 pub fired-none : (f : Fired) → after_fired 0 f ≡ f
 fired-none f = let same : 0 + f.count ≡ f.count = omega arith in ap (λ c. record f { count = c }) same
 
-pub fired-more : (time n : ℕ) (b : ControlBlock) (t : Timer) → due_timer time b.parts.timers ≡ Some t → after_fired (n + 1) (fire_all time (after_firing t b)) ≡ after_fired n (fire_all time b)
+fired-more : (time n : ℕ) (b : ControlBlock) (t : Timer) → due_timer time b.parts.timers ≡ Some t → after_fired (n + 1) (fire_all time (after_firing t b)) ≡ after_fired n (fire_all time b)
 fired-more time n b t e =
     let f = fire_all time (after_firing t b) in
     let same : (n + 1) + f.count ≡ n + (f.count + 1) = omega arith in
     ap (λ c. record f { count = c }) same ∙ ap (after_fired n) (sym (fire-first time b t e))
 
-pub fired-all : (time n : ℕ) (b : ControlBlock) → due_timer time b.parts.timers ≡ None → after_fired n (fire_all time b) ≡ record { control = b; count = n }
+fired-all : (time n : ℕ) (b : ControlBlock) → due_timer time b.parts.timers ≡ None → after_fired n (fire_all time b) ≡ record { control = b; count = n }
 fired-all time n b e =
     let same : n + 0 ≡ n = omega arith in
     ap (after_fired n) (fire-none time b e) ∙ ap (λ c. record { control = b; count = c }) same
@@ -125,20 +126,53 @@ fired-all time n b e =
 abbrev pub AreNamed : List Timer → ℕ → Type 0
 AreNamed ts n = Each ts (λ i (t : Timer). t.signal.0 < n)
 
-pub named-without : (ts us : List Timer) (t : Timer) (n m : ℕ) → us ≡ without_timer t ts → m ≡ n → AreNamed ts n → AreNamed us m
+named-without : (ts us : List Timer) (t : Timer) (n m : ℕ) → us ≡ without_timer t ts → m ≡ n → AreNamed ts n → AreNamed us m
 named-without ts us t n m e f named =
     subst (AreNamed us) (sym f) (subst (λ l. AreNamed l n) (sym e) (each_filter (λ (u : Timer). u.signal.0 < n) (λ (u : Timer). not (u.number == t.number)) ts named))
 
-pub due-named : (time : ℕ) (ts : List Timer) (t : Timer) (n : ℕ) → due_timer time ts ≡ Some t → AreNamed ts n → t.signal.0 < n
+due-named : (time : ℕ) (ts : List Timer) (t : Timer) (n : ℕ) → due_timer time ts ≡ Some t → AreNamed ts n → t.signal.0 < n
 due-named time ts t n h named = let k = due-there time ts t h in named k.0 t k.1
 
--- a timer goes out and latches its signal
-pub after-latch : (st : Store) (old mid new : Agenda) (o : Option Timer) (t : Timer) → mid ≡ record old { timers = without_fired o old.timers } → o ≡ Some t →
-    control_of st new ≡ latch_in t.signal.0 (record { source = source.Timer; value = t.value }) (control_of st mid) → control_of st new ≡ after_firing t (control_of st old)
-after-latch st old mid new o t rest is latched =
-    latched
-    ∙ ap (λ (a : Agenda). latch_in t.signal.0 (record { source = source.Timer; value = t.value }) (control_of st a)) rest
-    ∙ ap (λ p. latch_in t.signal.0 (record { source = source.Timer; value = t.value }) (control_of st (record old { timers = without_fired p old.timers }))) is
+-- one timer fires: it goes out of those armed, and latches its signal
+module _ (time : ℕ) (old mid : Agenda) (o : Option Timer) (which : o ≡ due_timer time old.timers) (rest : mid ≡ record old { timers = without_fired o old.timers }) where
+  module _ (t : Timer) (is : o ≡ Some t) where
+    due : due_timer time old.timers ≡ Some t
+    due = sym which ∙ is
 
-pub timers-left : (t : Timer) (b c : ControlBlock) → c ≡ after_firing t b → c.parts.timers ≡ without_timer t b.parts.timers
-timers-left t b c e = ap (λ (x : ControlBlock). x.parts.timers) e ∙ timers-after t b
+    pub named-signal : AreNamed old.timers (length old.signals) → t.signal.0 < length mid.signals
+    named-signal named =
+        let named_there = due-named time old.timers t (length old.signals) due named in
+        let same = ap (λ (a : Agenda). length a.signals) rest in
+        omega (arith, named_there, same)
+
+    module _ (new : Agenda) (latched : (st : Store) → control_of st new ≡ latch_in t.signal.0 (record { source = source.Timer; value = t.value }) (control_of st mid)) where
+      after : (st : Store) → control_of st new ≡ after_firing t (control_of st old)
+      after st =
+          latched st
+          ∙ ap (λ (a : Agenda). latch_in t.signal.0 (record { source = source.Timer; value = t.value }) (control_of st a)) rest
+          ∙ ap (λ p. latch_in t.signal.0 (record { source = source.Timer; value = t.value }) (control_of st (record old { timers = without_fired p old.timers }))) is
+
+      left : new.timers ≡ without_timer t old.timers
+      left = ap (λ (x : ControlBlock). x.parts.timers) (after no_store) ∙ timers-after t (control_of no_store old)
+
+      pub fewer-armed : length new.timers < length old.timers
+      fewer-armed = let less = due-shorter time old.timers t due in let same = ap length left in omega (arith, less, same)
+
+      pub size-after : (n : ℕ) → length new.disps ≡ length mid.disps → length old.disps ≡ n → length new.disps ≡ n
+      size-after n size so_far = size ∙ ap (λ (a : Agenda). length a.disps) rest ∙ so_far
+
+      pub named-after : length new.signals ≡ length mid.signals → AreNamed old.timers (length old.signals) → AreNamed new.timers (length new.signals)
+      named-after size named = named-without old.timers new.timers t (length old.signals) (length new.signals) left (size ∙ ap (λ (a : Agenda). length a.signals) rest) named
+
+      pub fired-after : (count : ℕ) (st : Store) (x : Fired) → after_fired count (fire_all time (control_of st old)) ≡ x → after_fired (count + 1) (fire_all time (control_of st new)) ≡ x
+      fired-after count st x so_far =
+          ap (λ b. after_fired (count + 1) (fire_all time b)) (after st)
+          ∙ fired-more time count (control_of st old) t due
+          ∙ so_far
+
+  -- none is due any more
+  pub fired-end : o ≡ None → (count : ℕ) (st : Store) (x : Fired) → after_fired count (fire_all time (control_of st old)) ≡ x → record { control = control_of st mid; count = count } ≡ x
+  fired-end is count st x so_far =
+      ap (λ (a : Agenda). record { control = control_of st a; count = count }) (rest ∙ ap (λ p. record old { timers = without_fired p old.timers }) is)
+      ∙ sym (fired-all time count (control_of st old) (sym which ∙ is))
+      ∙ so_far

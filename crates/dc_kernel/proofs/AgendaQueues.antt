@@ -1,33 +1,30 @@
 -- The ready list of an agenda agrees with its dispatchers after a change.
-use Rattle.std.proofs.Common.{◌≡◌, ℕ, zero, suc, ◌<◌, List, [], ◌∷◌, ◌++◌, Bool, true, false, cond, not, Option, Some, None, refl, sym, ap, ◌∙◌, subst, length, map, arith}
-use Rattle.std.specs.Prelude.{slice_get, slice_set, slice_index_or, ◌==◌, ◌||◌}
-use Rattle.std.proofs.lemmas.Bool.{eqb-true, eqb-false, ne_eqb, or_parts, or_from, cases_Bool}
+use Rattle.std.proofs.Common.{◌≡◌, ℕ, zero, suc, ◌<◌, ◌≤◌, List, [], ◌∷◌, ◌++◌, true, false, cond, not, Some, refl, sym, ap, ◌∙◌, subst, length, map, arith}
+use Rattle.std.specs.Prelude.{slice_get, slice_index_or, ◌==◌}
+use Rattle.std.specs.List.{refill}
+use Rattle.std.proofs.lemmas.Bool.{eqb-false, ne_eqb, or_parts, or_from}
 use Rattle.std.proofs.lemmas.Option.{none-some, same_Some}
 use Rattle.std.proofs.lemmas.List.{map-set}
-use Rattle.dc_base.specs.declared.dispatchers.DispState.{DispState}
 use Rattle.dc_base.specs.declared.dispatchers.DispState.TheVariants as disp
 use Rattle.dc_base.specs.declared.dispatchers.Wait.{Wait}
+use Rattle.dc_base.specs.Slices.{without_ready}
 use Rattle.dc_base.specs.Words.{Each, lists, without}
 use Rattle.dc_base.proofs.EachLaws.{each-append}
 use Rattle.dc_isa.specs.declared.dispatchers.Dispatcher.{Dispatcher}
-use Rattle.dc_ready.specs.Entries.{dispatchers, without_disp, AreOnceBelow, IsReadyList}
+use Rattle.dc_ready.specs.Entries.{dispatchers, without_disp}
 use Rattle.dc_ready.proofs.Listed.{once-push, once-without}
 use Rattle.dc_sound.proofs.Ascending.{each_filter}
 use Rattle.dc_sound.proofs.Elements.{set_other}
-use Rattle.dc_kcb.specs.Controls.{Agenda, state_of, due_of}
+use Rattle.dc_kcb.specs.Controls.{Store, Agenda, control_of, state_of, due_of}
 use Rattle.dc_kernel.specs.Queued.{AreQueued}
-use Rattle.dc_kernel.proofs.AgendaWrites.{map-kept, blank, written}
+use Rattle.dc_kernel.proofs.AgendaWrites.{map-kept, blank, written, put-written, there, due-there}
 
-pub dispatchers-without : (d : ℕ) (es : List (ℕ × ℕ)) → dispatchers (without_disp d es) ≡ without d (dispatchers es)
+dispatchers-without : (d : ℕ) (es : List (ℕ × ℕ)) → dispatchers (without_disp d es) ≡ without d (dispatchers es)
 dispatchers-without d [] = refl
 dispatchers-without d (e ∷ es) =
     let rest = dispatchers-without d es in
     elim (e.0 == d) as (λ b. dispatchers (cond (not b) (e ∷ without_disp d es) (without_disp d es)) ≡ cond (not b) (e.0 ∷ without d (dispatchers es)) (without d (dispatchers es)))
     [ true ↦ rest | false ↦ ap (λ l. e.0 ∷ l) rest ]
-
-pub dispatchers-push : (es : List (ℕ × ℕ)) (e : ℕ × ℕ) → dispatchers (es ++ e ∷ []) ≡ dispatchers es ++ e.0 ∷ []
-dispatchers-push [] e = refl
-dispatchers-push (f ∷ es) e = ap (λ l. f.0 ∷ l) (dispatchers-push es e)
 
 -- a dispatcher that is not listed is none of the listed
 others : (d : ℕ) (es : List (ℕ × ℕ)) → lists (dispatchers es) d ≡ false → Each es (λ i (e : ℕ × ℕ). (e.0 == d) ≡ false)
@@ -82,8 +79,41 @@ module _ (ds : List Dispatcher) (ready : List (ℕ × ℕ)) (queued : AreQueued 
   pub waits-unlisted : (d : ℕ) (w : Wait) → slice_get (map state_of ds) d ≡ Some (disp.Waits w) → lists (dispatchers ready) d ≡ false
   waits-unlisted d w waits = unlisted d ready (λ i e there. ne_eqb e.0 d (λ is. let r : slice_get (map state_of ds) d ≡ Some disp.Ready = ap (slice_get (map state_of ds)) (sym is) ∙ queued.states i e there in absurd cc))
 
--- the same of an agenda as its contracts see it
-pub waits-absent : (inside now : Agenda) → inside ≡ now → AreQueued inside.disps inside.ready → (d : ℕ) (w : Wait) → slice_get (map state_of now.disps) d ≡ Some (disp.Waits w) → lists (dispatchers now.ready) d ≡ false
-waits-absent inside now same queued d w waits =
-    ap (λ (a : Agenda). lists (dispatchers a.ready) d) (sym same)
-    ∙ waits-unlisted inside.disps inside.ready queued d w (ap (λ (a : Agenda). slice_get (map state_of a.disps) d) same ∙ waits)
+-- the same as a function's contract sees it: the fields before it and the agenda that they are
+module _ (inside now : Agenda) (same : inside ≡ now) (queued : AreQueued inside.disps inside.ready) (d : ℕ) where
+  was_absent : lists (dispatchers now.ready) d ≡ false → lists (dispatchers inside.ready) d ≡ false
+  was_absent absent = ap (λ (a : Agenda). lists (dispatchers a.ready) d) same ∙ absent
+
+  pub waits-absent : (w : Wait) → slice_get (map state_of now.disps) d ≡ Some (disp.Waits w) → lists (dispatchers now.ready) d ≡ false
+  waits-absent w waits =
+      ap (λ (a : Agenda). lists (dispatchers a.ready) d) (sym same)
+      ∙ waits-unlisted inside.disps inside.ready queued d w (ap (λ (a : Agenda). slice_get (map state_of a.disps) d) same ∙ waits)
+
+  pub queue-push : (zs : List Dispatcher) (ready : List (ℕ × ℕ)) → zs ≡ inside.disps → length zs ≤ 16 → lists (dispatchers now.ready) d ≡ false → slice_get (map state_of now.disps) d ≡ Some disp.Ready →
+      ready ≡ inside.ready ++ (d, (slice_index_or zs d blank).due) ∷ [] → AreQueued inside.disps ready
+  queue-push zs ready lent most absent is_ready e =
+      let here : slice_get (map state_of inside.disps) d ≡ Some disp.Ready = ap (λ (a : Agenda). slice_get (map state_of a.disps) d) same ∙ is_ready in
+      let lt : d < length inside.disps = there inside.disps d disp.Ready here in
+      let long = ap length lent in
+      subst (AreQueued inside.disps) (sym e) (queued-push inside.disps inside.ready queued d (slice_index_or zs d blank).due (omega arith) (was_absent absent) (due-there inside.disps d zs lent lt) here)
+
+  pub queue-without : (ready : List (ℕ × ℕ)) → ready ≡ without_disp d inside.ready → AreQueued inside.disps ready
+  queue-without ready e = subst (AreQueued inside.disps) (sym e) (queued-without inside.disps inside.ready queued d)
+
+  pub control-without : (ready : List (ℕ × ℕ)) → ready ≡ without_disp d inside.ready → (s : Store) → control_of s (record inside { ready = ready }) ≡ without_ready d (control_of s now)
+  control-without ready e s =
+      ap (λ ds. record (control_of s inside) { ready = ds }) (ap dispatchers e ∙ dispatchers-without d inside.ready)
+      ∙ ap (λ (a : Agenda). without_ready d (control_of s a)) same
+
+  module _ (zs : List Dispatcher) (lent : zs ≡ inside.disps) (f : Dispatcher → Dispatcher) where
+    back : AreQueued (written f d inside.disps) inside.ready → AreQueued (refill (length inside.disps) inside.disps (written f d zs)) inside.ready
+    back h = subst (λ ds. AreQueued ds inside.ready) (sym (put-written inside.disps zs lent f d)) h
+
+    pub queue-state : lists (dispatchers now.ready) d ≡ false → ((x : Dispatcher) → (f x).due ≡ x.due) → AreQueued (refill (length inside.disps) inside.disps (written f d zs)) inside.ready
+    queue-state absent keeps = back (queued-state inside.disps inside.ready queued f d (was_absent absent) keeps)
+
+    pub queue-due : lists (dispatchers now.ready) d ≡ false → ((x : Dispatcher) → (f x).state ≡ x.state) → AreQueued (refill (length inside.disps) inside.disps (written f d zs)) inside.ready
+    queue-due absent keeps = back (queued-due inside.disps inside.ready queued f d (was_absent absent) keeps)
+
+    pub queue-context : ((x : Dispatcher) → (f x).due ≡ x.due) → ((x : Dispatcher) → (f x).state ≡ x.state) → AreQueued (refill (length inside.disps) inside.disps (written f d zs)) inside.ready
+    queue-context due state = back (queued-context inside.disps inside.ready queued f d due state)

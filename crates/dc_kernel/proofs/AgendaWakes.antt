@@ -1,9 +1,10 @@
 -- Waiting dispatchers that wake one after another.
-use Rattle.std.proofs.Common.{◌≡◌, ℕ, zero, suc, ◌+◌, ◌<◌, ◌≤◌, List, [], ◌∷◌, ◌++◌, Bool, true, false, cond, Option, Some, None, refl, sym, ap, ◌∙◌, subst, length, map, take, drop, get_or, arith}
-use Rattle.std.specs.Prelude.{slice_get, slice_set, ◌==◌}
+use Rattle.std.proofs.Common.{◌≡◌, ℕ, zero, suc, ◌+◌, ◌<◌, ◌≤◌, List, [], ◌∷◌, ◌++◌, Bool, true, false, cond, Option, Some, refl, sym, ap, ◌∙◌, length, map, take, drop, get_or, arith}
+use Rattle.std.specs.Prelude.{slice_get, slice_set, slice_index_or}
+use Rattle.std.specs.List.{refill}
 use Rattle.std.specs.Option.{option_map_or}
-use Rattle.std.proofs.lemmas.List.{append_assoc, append-nil, drop_more, take_more, take_more_set, drop-set-lt, drop_all, take_all}
-use Rattle.std.proofs.lemmas.Option.{none-some, same_Some, slice_get_within, get_or_from_slice_get, slice_get-get_or}
+use Rattle.std.proofs.lemmas.List.{length-map, append_assoc, append-nil, drop_more, take_more, take_more_set, drop-set-lt, drop_all, take_all}
+use Rattle.std.proofs.lemmas.Option.{slice_get_within, get_or_from_slice_get, slice_get-get_or}
 use Rattle.dc_base.specs.declared.dispatchers.DispState.{DispState}
 use Rattle.dc_base.specs.declared.dispatchers.DispState.TheVariants as disp
 use Rattle.dc_base.specs.declared.dispatchers.Wait.{Wait}
@@ -12,8 +13,10 @@ use Rattle.dc_base.specs.declared.interrupts.Latch.{Latch}
 use Rattle.dc_base.specs.Ports.{signal_after, signals_after}
 use Rattle.dc_base.specs.Words.{change}
 use Rattle.dc_base.specs.ControlBlocks.{ControlBlock}
-use Rattle.dc_base.specs.Firing.{same_wait, waits_so, waiters_from, state_after_wake, wake}
+use Rattle.dc_base.specs.Firing.{waits_so, waiters_from, state_after_wake, wake, latch_in}
 use Rattle.dc_base.specs.Wakes.{ready_again}
+use Rattle.dc_kcb.specs.Controls.{Store, Agenda, control_of, state_of}
+use Rattle.dc_kernel.proofs.AgendaWrites.{no_store, signal-latched}
 
 -- whether dispatcher d waits so
 abbrev pub waits_at : Wait → List DispState → ℕ → Bool
@@ -97,21 +100,47 @@ module _ (i : ℕ) (w : Wait) (b : ControlBlock) (s : DispState) (here : slice_g
       ∙ ap (λ l. b.ready ++ l) (one ∙ ap (waiters_from i w) (sym begins)) in
       λ j. record b { states = states j; ready = ready j }
 
--- the parts stay
-pub signals-woken : (w : Wait) (b : ControlBlock) → (wake w b).parts.signals ≡ b.parts.signals
-unfolding wake
-signals-woken w b = refl
-
 length-change : {X : Type 0} (f : X → X) (i : ℕ) (xs : List X) → length (change f i xs) ≡ length xs
 length-change f i [] = refl
 length-change f zero (x ∷ xs) = refl
 length-change f (suc i) (x ∷ xs) = ap suc (length-change f i xs)
 
-pub signals-latched : (s : ℕ) (l : Latch) (os : List (Option Latch)) → length (signals_after s l os) ≡ length os
-unfolding signals_after
-signals-latched s l os = length-change (signal_after l) s os
+signals-latched : (s : ℕ) (l : Latch) (b : ControlBlock) → length (latch_in s l b).parts.signals ≡ length b.parts.signals
+unfolding latch_in wake signals_after
+signals-latched s l b = length-change (signal_after l) s b.parts.signals
 
--- one step of the wakes: the dispatcher at i wakes where it waits so, and else stays
-pub woken-step : (i : ℕ) (w : Wait) (b : ControlBlock) (t : Bool) → i < length b.states → waits_at w b.states i ≡ t → rest_woken (i + 1) w (cond t (ready_again i b) b) ≡ rest_woken i w b
-woken-step i w b true lt e = let k = waiting w b.states i true lt e in woken-more i w b k.state k.here k.waits
-woken-step i w b false lt e = let k = waiting w b.states i false lt e in woken-skip i w b k.state k.here k.waits
+-- a latch comes to a signal as a function's contract sees it: the fields before it, the agenda that they are, and the signals as they were lent
+module _ (inside now : Agenda) (same : inside ≡ now) (zs : List (Option Latch)) (lent : zs ≡ inside.signals) (s : ℕ) (l : Latch) (d x : Option Latch) (after : x ≡ signal_after l (slice_index_or zs s d)) (new : Agenda) where
+  abbrev put_back : Store → ControlBlock
+  put_back st = control_of st (record inside { signals = refill (length inside.signals) inside.signals (slice_set zs s x) })
+
+  pub latch-put : (st : Store) → control_of st new ≡ wake (wait.Signal (record { 0 = s })) (put_back st) → control_of st new ≡ latch_in s l (control_of st now)
+  unfolding latch_in
+  latch-put st woken =
+      woken
+      ∙ ap (λ os. wake (wait.Signal (record { 0 = s })) (control_of st (record inside { signals = os }))) (signal-latched inside.signals zs lent s l d x after)
+      ∙ ap (λ (a : Agenda). latch_in s l (control_of st a)) same
+
+  pub latch-length : control_of no_store new ≡ wake (wait.Signal (record { 0 = s })) (put_back no_store) → length new.signals ≡ length now.signals
+  latch-length woken = ap (λ (b : ControlBlock). length b.parts.signals) (latch-put no_store woken) ∙ signals-latched s l (control_of no_store now)
+
+-- one step of the wakes, where x is what all of them come to
+module _ (s : Store) (i : ℕ) (w : Wait) (old : Agenda) (x : ControlBlock) (so_far : rest_woken i w (control_of s old) ≡ x) (here : i < length old.disps) (b : Bool) (test : b ≡ waits_at w (map state_of old.disps) i) where
+  found : Waiting w (map state_of old.disps) i b
+  found = let many = length-map old.disps state_of in waiting w (map state_of old.disps) i b (omega arith) (sym test)
+
+  pub woken-then : b ≡ true → (mid new : Agenda) → new ≡ mid → control_of s mid ≡ ready_again i (control_of s old) → rest_woken (i + 1) w (control_of s new) ≡ x
+  woken-then so mid new is woken =
+      ap (λ (a : Agenda). rest_woken (i + 1) w (control_of s a)) is
+      ∙ ap (rest_woken (i + 1) w) woken
+      ∙ woken-more i w (control_of s old) found.state found.here (found.waits ∙ so)
+      ∙ so_far
+
+  pub woken-else : b ≡ false → (new : Agenda) → new ≡ old → rest_woken (i + 1) w (control_of s new) ≡ x
+  woken-else so new is =
+      ap (λ (a : Agenda). rest_woken (i + 1) w (control_of s a)) is
+      ∙ woken-skip i w (control_of s old) found.state found.here (found.waits ∙ so)
+      ∙ so_far
+
+pub woken-end : (s : Store) (i : ℕ) (w : Wait) (a : Agenda) (x : ControlBlock) → rest_woken i w (control_of s a) ≡ x → length a.disps ≤ i → control_of s a ≡ x
+woken-end s i w a x all long = let many = length-map a.disps state_of in sym (woken-all i w (control_of s a) (omega arith)) ∙ all

@@ -1,5 +1,5 @@
 -- What the control block of an agenda becomes where one dispatcher is written.
-use Rattle.std.proofs.Common.{◌≡◌, ℕ, zero, suc, ◌+◌, ◌^◌, ◌<◌, ◌≤◌, List, [], ◌∷◌, ◌++◌, Option, Some, None, refl, sym, ap, ◌∙◌, subst, length, map, take, arith}
+use Rattle.std.proofs.Common.{◌≡◌, ℕ, zero, suc, ◌+◌, ◌^◌, ◌<◌, List, [], ◌∷◌, ◌++◌, Option, Some, refl, sym, ap, ◌∙◌, length, map, take, arith}
 use Rattle.std.specs.Prelude.{slice_get, slice_set, slice_index, slice_index_or}
 use Rattle.std.specs.List.{refill}
 use Rattle.std.proofs.lemmas.List.{map-set, length-set, length-map, append-nil, drop_all, take_all}
@@ -121,6 +121,27 @@ module _ (s : Store) (a : Agenda) (i : ℕ) where
         dues = dues_later j;
         periods = map-kept period_of a.disps i x blank refl j;
       }
+
+-- the same as a function's contract sees it: the fields before it, the agenda that they are, and the dispatchers as they were lent
+module _ (inside now : Agenda) (same : inside ≡ now) (zs : List Dispatcher) (lent : zs ≡ inside.disps) (s : Store) (i : ℕ) where
+  abbrev put_back : (Dispatcher → Dispatcher) → ControlBlock
+  put_back f = control_of s (with_disps (refill (length inside.disps) inside.disps (written f i zs)) inside)
+
+  back : (f : Dispatcher → Dispatcher) → put_back f ≡ control_of s (with_disps (written f i inside.disps) inside)
+  back f = ap (λ ds. control_of s (with_disps ds inside)) (put-written inside.disps zs lent f i)
+
+  pub state-put : (t : DispState) → put_back (in_state t) ≡ with_state i t (control_of s now)
+  state-put t = back (in_state t) ∙ control-state s inside i t ∙ ap (λ a. with_state i t (control_of s a)) same
+
+  pub context-put : (c : Context) → put_back (in_context c) ≡ at_context i c (control_of s now)
+  context-put c = back (in_context c) ∙ control-context s inside i c ∙ ap (λ a. at_context i c (control_of s a)) same
+
+  pub due-put : (ys : List Dispatcher) → ys ≡ inside.disps → put_back (later_by (slice_index_or ys i blank).period) ≡ due_after Edf i (control_of s now)
+  due-put ys e =
+      ap (λ (l : List Dispatcher). put_back (later_by (slice_index_or l i blank).period)) e
+      ∙ back (later_by (slice_index_or inside.disps i blank).period)
+      ∙ control-due s inside i
+      ∙ ap (λ a. due_after Edf i (control_of s a)) same
 
 -- what is known of a dispatcher that is there
 module _ (ds : List Dispatcher) (d : ℕ) where
