@@ -7,3 +7,4 @@ pub mod Queued
 pub mod Serves
 pub mod Contexts
 pub mod Tested
+pub mod Ends

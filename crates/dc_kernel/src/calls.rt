@@ -2,9 +2,11 @@
 
 mod channels;
 mod copies;
+mod ends;
 mod lines;
 mod needs;
 mod places;
+mod messages;
 mod ports;
 mod prints;
 mod removals;

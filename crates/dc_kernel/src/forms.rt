@@ -1,9 +1,9 @@
 //! A block as a kernel works on it.
 
-ghost use Rattle.std.specs.Prelude.{◌≡◌, Some, slice_get};
+ghost use Rattle.std.specs.Prelude.{◌≡◌, ◌<◌, ◌≤◌, Some, length, slice_get};
 ghost use Rattle.dc_base.specs.Effects.{Context};
 ghost use Rattle.dc_base.specs.Kernel.{with_next_place};
-ghost use Rattle.dc_kernel.specs.Serves.{IsRunning};
+ghost use Rattle.dc_base.specs.Words.{Each};
 
 use crate::agendas::Agenda;
 use arrayvec::ArrayVec;
@@ -39,7 +39,8 @@ impl<R: ReadyList, T: TimerQueue> Model for Form<R, T> {
 impl<R: ReadyList, T: TimerQueue> Form<R, T> {
     /// The place of the dispatcher moves on by one.
     pub(crate) fn go_on(&mut self, d: DispNo)
-        requires { IsRunning d.0 self.old }
+        requires there { d.0 < length self.old.parts.contexts }
+        requires places { Each self.old.parts.contexts (λ d (c : Context). c.place ≤ 65535) }
         ensures { (x : Context) → slice_get self.old.parts.contexts d.0 ≡ Some x → self.new ≡ record self.old { parts = with_next_place d.0 x self.old.parts } }
     {
         let disp = self.agenda.disp(d);
