@@ -5,7 +5,6 @@ mod copies;
 mod ends;
 mod lines;
 mod needs;
-mod places;
 mod messages;
 mod ports;
 mod prints;
