@@ -1,7 +1,7 @@
 //! The dispatchers of a block, and what wakes them.
 
 ghost use Rattle.std.specs.Prelude.{◌≡◌, ◌<◌, ◌≤◌, ◌+◌, ◌^◌, ◌-◌, ◌↔◌, ℕ, Some, None, false, length, map, slice_get, slice_set, IsErr, OnOk, OnErr};
-ghost use Rattle.std.specs.Option.{option_map};
+ghost use Rattle.std.specs.Option.{option_map, option_map_or};
 ghost use Rattle.dc_base.specs.declared.dispatchers.DispState.TheVariants as disp;
 ghost use Rattle.dc_base.specs.declared.dispatchers.Wait.{Wait as Waits};
 ghost use Rattle.dc_base.specs.declared.interrupts.Timer.{Timer as Armed};
@@ -10,17 +10,19 @@ ghost use Rattle.dc_base.specs.declared.numbers.DispNo.{DispNo as Disp};
 ghost use Rattle.dc_base.specs.Words.{Each, lists};
 ghost use Rattle.dc_base.specs.Ports.{latch_at, how_latched};
 ghost use Rattle.dc_base.specs.Policies.{pick};
-ghost use Rattle.dc_base.specs.Firing.{wake, latch_in, fire_all};
+ghost use Rattle.dc_base.specs.Firing.{waits_so, wake, latch_in, fire_all};
 ghost use Rattle.dc_base.specs.Kernel.{with_timer};
 ghost use Rattle.dc_base.specs.Slices.{with_state, ready_last, without_ready, due_after};
 ghost use Rattle.dc_base.specs.Wakes.{ready_again};
+ghost use Rattle.dc_base.specs.Timers.{due_timer};
+ghost use Rattle.dc_timers.specs.Numbers.{without_fired};
 ghost use Rattle.dc_ready.specs.Entries.{dispatchers};
 ghost use Rattle.dc_kcb.specs.Controls.{Store, control_of, due_of, state_of};
 ghost use Rattle.dc_kernel.specs.Contexts.{at_context};
 
 use arrayvec::ArrayVec;
 use dc_base::dispatchers::{DispState, Wait};
-use dc_base::interrupts::{Latch, Latched, Source};
+use dc_base::interrupts::{Latch, Latched, Source, Timer};
 use dc_base::numbers::{DispNo, SignalNo};
 use dc_isa::Dispatcher;
 use dc_ports::Signal;
@@ -126,11 +128,27 @@ impl<R: ReadyList, T: TimerQueue> Agenda<R, T> {
         ensures control { (s : Store) → control_of s self.new ≡ wake w (control_of s self.old) }
         ensures size { length self.new.disps ≡ length self.old.disps }
     {
-        for i in 0..self.disps.len() {
-            if self.disps[i].state == DispState::Waits(w) {
-                self.wake_one(DispNo(i as u32));
+        for i in 0..self.count() {
+            let d = DispNo(i);
+            if self.waits(d, w) {
+                self.wake_one(d);
             }
         }
+    }
+
+    /// How many dispatchers there are.
+    fn count(&self) -> u32
+        ensures { result ≡ length self.now.disps }
+    {
+        self.disps.len() as u32
+    }
+
+    /// Whether the dispatcher waits so.
+    fn waits(&self, d: DispNo, w: Wait) -> bool
+        requires { d.0 < length self.now.disps }
+        ensures { result ≡ option_map_or (waits_so w) (slice_get (map state_of self.now.disps) d.0) false }
+    {
+        is_waiting(self.disps[d.0 as usize].state, w)
     }
 
     /// A waiting dispatcher is ready again, last of all.
@@ -139,13 +157,14 @@ impl<R: ReadyList, T: TimerQueue> Agenda<R, T> {
         ensures control { (s : Store) → control_of s self.new ≡ ready_again d.0 (control_of s self.old) }
         ensures size { length self.new.disps ≡ length self.old.disps }
     {
+        let _ = &self.disps;
         self.set_state(d, DispState::Ready);
         self.ready_last(d);
     }
 
     /// A latch comes to a signal, and wakes all that wait for it.
     pub(crate) fn latch(&mut self, s: SignalNo, l: Latch) -> Latched
-        requires { s.0 < length self.old.signals }
+        requires there { s.0 < length self.old.signals }
         ensures how { result ≡ how_latched (latch_at self.old.signals s.0) }
         ensures control { (st : Store) → control_of st self.new ≡ latch_in s.0 l (control_of st self.old) }
         ensures size { length self.new.disps ≡ length self.old.disps }
@@ -164,7 +183,7 @@ impl<R: ReadyList, T: TimerQueue> Agenda<R, T> {
         ensures size { length self.new.disps ≡ length self.old.disps }
     {
         let mut count = 0;
-        while let Some(t) = self.timers.due(time) {
+        while let Some(t) = self.take_due(time) {
             let latch = Latch {
                 source: Source::Timer,
                 value: t.value,
@@ -173,6 +192,15 @@ impl<R: ReadyList, T: TimerQueue> Agenda<R, T> {
             count += 1;
         }
         count
+    }
+
+    /// The timer that fires first goes out of the armed ones, if one is due.
+    fn take_due(&mut self, time: u64) -> Option<Timer>
+        ensures which { result ≡ due_timer time self.old.timers }
+        ensures rest { self.new ≡ record self.old { timers = without_fired result self.old.timers } }
+    {
+        let _ = &self.disps;
+        self.timers.due(time)
     }
 
     /// The dispatcher that runs next once all due timers have fired.
@@ -211,8 +239,13 @@ impl<R: ReadyList, T: TimerQueue> Agenda<R, T> {
         self.signals[s.0 as usize].take()
     }
 
-    /// Arms a timer of a signal. None where 64 are armed.
-    pub(crate) fn arm(&mut self, deadline: u64, signal: SignalNo, value: u32) -> Result<(), TimersFull>
+    /// Arms a timer of a signal, unless 64 are armed.
+    pub(crate) fn arm(
+        &mut self,
+        deadline: u64,
+        signal: SignalNo,
+        value: u32,
+    ) -> Result<(), TimersFull>
         requires { self.old.next_timer < 2 ^ 32 - 1 }
         ensures full { IsErr result ↔ (64 ≤ length self.old.timers) }
         ensures armed { OnOk result ((st : Store) → control_of st self.new ≡ (let x = control_of st self.old in record x { parts = with_timer deadline signal.0 value x.parts })) }
@@ -223,6 +256,13 @@ impl<R: ReadyList, T: TimerQueue> Agenda<R, T> {
         self.timers.arm(deadline, signal, value)?;
         Ok(())
     }
+}
+
+/// Whether it is the state of a dispatcher that waits so.
+fn is_waiting(state: DispState, w: Wait) -> bool
+    ensures { result ≡ waits_so w state }
+{
+    state == DispState::Waits(w)
 }
 
 /// Another list of the same.
