@@ -18,3 +18,7 @@ ok_not_err (Err e) err ok = cc
 pub ok_of : {A E : Type 0} (r : Result A E) (b : Bool) → b ≡ is_err r → b ≡ false → IsOk r
 ok_of (Ok x) b is h = refl
 ok_of (Err e) b is h = cc
+
+pub err_not_ok : {A E : Type 0} (r : Result A E) → IsOk r → IsErr r → ⊥
+err_not_ok (Ok x) ok err = cc
+err_not_ok (Err e) ok err = cc

@@ -1,9 +1,10 @@
 -- What a kernel call came to, from what it is served with.
 use Rattle.std.proofs.Common.{◌≡◌, ℕ, ap, sym, refl, ◌∙◌}
-use Rattle.std.specs.Prelude.{Option}
+use Rattle.std.specs.Prelude.{Option, None}
 use Rattle.dc_base.specs.declared.dispatchers.Wait.{Wait}
+use Rattle.dc_base.specs.declared.interrupts.Latch.{Latch}
 use Rattle.dc_base.specs.ControlBlocks.{ControlBlock}
-use Rattle.dc_base.specs.Kernel.{Call, faults, waits, makes}
+use Rattle.dc_base.specs.Kernel.{Call, faults, waits, makes, takes}
 use Rattle.dc_base.specs.Parts.{Parts}
 use Rattle.dc_base.specs.Serving.{Outside, faulted, held_up, served, serve}
 use Rattle.dc_kernel.specs.declared.answers.Answer.TheVariants as answer
@@ -41,3 +42,13 @@ module _ (c n : ℕ) (call : Call) (before after : ControlBlock) (out : Outside)
   pub serves_makes : (w : Option Wait) (p : Parts) → call ≡ makes w p → after ≡ record before { parts = p } → Serves c n call before after out out (answer.Made w)
   unfolding serve
   serves_makes w p e is = serves_made c n call before after out out w p is (ap (λ (l : Call). serve c n l out) e)
+
+  -- it is made and took a latch
+  pub serves_takes : (l : Latch) (p : Parts) → call ≡ takes l p → after ≡ record before { parts = p } → Serves c n call before after out out (answer.Made None)
+  unfolding serve
+  serves_takes l p e is = serves_made c n call before after out out None p is (ap (λ (l : Call). serve c n l out) e)
+
+  -- it comes to a fault, and nothing changes
+  pub serves_refused : (k : ℕ) → call ≡ faults k → after ≡ before → Serves c n call before after out out (answer.Fault k)
+  unfolding serve
+  serves_refused k e is = serves_fault c n call before after out out k is refl (ap (λ (l : Call). serve c n l out) e)

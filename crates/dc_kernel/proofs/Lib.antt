@@ -9,6 +9,7 @@ pub mod CallServed
 pub mod CallPrints
 pub mod CallPorts
 pub mod CallChannels
+pub mod CallSignals
 pub mod AgendaWrites
 pub mod AgendaQueues
 pub mod AgendaWakes

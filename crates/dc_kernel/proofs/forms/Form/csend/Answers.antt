@@ -23,8 +23,8 @@ returns-in-Err-clause-served g c = λ k n time x there. serves_faults k n _ c.ar
 pub returns-in_default : goal.returns-in_default
 returns-in_default g c = record {
   served = λ k n time x there.
-  let is = csend_is time c.args.d.0 c.args.a c.args.b c.args.imm x c.args.self.now.parts c.in-Ok.between.end c.in-Ok.between.address c.in-Ok.ensures.call c.in-Ok.ensures.end c.in-Ok.ensures.address in
-  serves_held k n _ c.args.self.now c.args.self.now _ _ _ refl refl (no_channel_to k n c.in-Ok.between.end _ _ _ c.args.outside.now is c.in_default.not-Channel);
+      let is = csend_is time c.args.d.0 c.args.a c.args.b c.args.imm x c.args.self.now.parts c.in-Ok.between.end c.in-Ok.between.address c.in-Ok.ensures.call c.in-Ok.ensures.end c.in-Ok.ensures.address in
+      serves_held k n _ c.args.self.now c.args.self.now _ _ _ refl refl (no_channel_to k n c.in-Ok.between.end _ _ _ c.args.outside.now is c.in_default.not-Channel);
   kind = λ m f. f;
 }
 

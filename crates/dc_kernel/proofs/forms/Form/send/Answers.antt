@@ -23,31 +23,33 @@ pub returns-in-Err : goal.returns-in-Err
 returns-in-Err g c = record { served = λ k n time out x there. serves_faults k n _ c.args.self.now c.args.self.now out _ _ (send_faults time c.args.d.0 c.args.a c.args.b c.args.imm x c.args.self.now.parts _ c.in-Err.ensures.call) c.trap.ensures }
 
 pub returns-then-is_err : goal.returns-then-is_err
-returns-then-is_err g c = record { served = λ k n time out x there.
-    let err = sym c.is_err.ensures.value ∙ c.if-is_err.true in
-    let before = c.args.self.now in
-    let end = c.in-Ok.between.end in
-    let held : c.deref_mut.result.now ≡ before.parts.ports = c.deref_mut.ensures.value ∙ ap (λ (y : ControlBlock). y.parts.ports) c.self.view_is in
-    let within : end < length c.self.inside.ports.items = subst (λ (y : ControlBlock). end < length y.parts.ports) (sym c.self.view_is) c.in-Ok.ensures.named in
-    serves_waits k n _ before _ out _
-    (send_is time c.args.d.0 c.args.a c.args.b c.args.imm x before.parts end c.in-Ok.between.address c.in-Ok.ensures.call c.in-Ok.ensures.end c.in-Ok.ensures.address
-    ∙ send_waits c.push.result end _ _ _ (there_at before.parts.ports c.deref_mut.result.now end c.index-deref_mut-port.result held c.in-Ok.ensures.named) err c.push.ensures.room)
-    (ports_kept _ _ _ c.self.view_is (put_same c.self.inside.ports.items c.deref_mut.result.now end c.index-deref_mut-port.result c.push.new.self c.deref_mut.ensures.value within (on_err c.push.result err c.push.ensures.kept)));
-    }
+returns-then-is_err g c = record {
+  served = λ k n time out x there.
+      let err = sym c.is_err.ensures.value ∙ c.if-is_err.true in
+      let before = c.args.self.now in
+      let end = c.in-Ok.between.end in
+      let held : c.deref_mut.result.now ≡ before.parts.ports = c.deref_mut.ensures.value ∙ ap (λ (y : ControlBlock). y.parts.ports) c.self.view_is in
+      let within : end < length c.self.inside.ports.items = subst (λ (y : ControlBlock). end < length y.parts.ports) (sym c.self.view_is) c.in-Ok.ensures.named in
+      serves_waits k n _ before _ out _
+      (send_is time c.args.d.0 c.args.a c.args.b c.args.imm x before.parts end c.in-Ok.between.address c.in-Ok.ensures.call c.in-Ok.ensures.end c.in-Ok.ensures.address
+      ∙ send_waits c.push.result end _ _ _ (there_at before.parts.ports c.deref_mut.result.now end c.index-deref_mut-port.result held c.in-Ok.ensures.named) err c.push.ensures.room)
+      (ports_kept _ _ _ c.self.view_is (put_same c.self.inside.ports.items c.deref_mut.result.now end c.index-deref_mut-port.result c.push.new.self c.deref_mut.ensures.value within (on_err c.push.result err c.push.ensures.kept)));
+}
 
 pub go_on-requires-clause-there : goal.go_on-requires-clause-there
 go_on-requires-clause-there g c κs within = subst (λ (y : ControlBlock). c.args.d.0 < length y.parts.contexts) (sym c.self.view_is) (running_within _ _ c.requires.running)
 
 pub returns : goal.returns
-returns g c = record { served = λ k n time out x there.
-    let ok = ok_of c.push.result c.is_err.result c.is_err.ensures.value c.if-is_err.false in
-    let before = c.args.self.now in
-    let end = c.in-Ok.between.end in
-    let held : c.deref_mut.result.now ≡ before.parts.ports = c.deref_mut.ensures.value ∙ ap (λ (y : ControlBlock). y.parts.ports) c.self.view_is in
-    serves_makes k n _ before _ out _ _
-    (send_is time c.args.d.0 c.args.a c.args.b c.args.imm x before.parts end c.in-Ok.between.address c.in-Ok.ensures.call c.in-Ok.ensures.end c.in-Ok.ensures.address
-    ∙ send_makes c.push.result end _ c.words_at-m.result _ _ c.push.new.self (there_at before.parts.ports c.deref_mut.result.now end c.index-deref_mut-port.result held c.in-Ok.ensures.named) ok c.push.ensures.room c.push.ensures.pushed
-    (c.words_at-m.ensures ∙ ap (λ l. words_at l c.in-Ok.between.address) (c.deref.ensures.value ∙ ap (λ (y : ControlBlock). y.parts.memory) c.self.view_is)))
-    (c.go_on.ensures x (ap (λ (y : ControlBlock). slice_get y.parts.contexts c.args.d.0) c.self.view_is ∙ there)
-    ∙ port_changed _ before _ end c.push.new.self c.args.d.0 x c.self.view_is (put_back c.self.inside.ports.items c.deref_mut.result.now end c.push.new.self c.deref_mut.ensures.value));
-    }
+returns g c = record {
+  served = λ k n time out x there.
+      let ok = ok_of c.push.result c.is_err.result c.is_err.ensures.value c.if-is_err.false in
+      let before = c.args.self.now in
+      let end = c.in-Ok.between.end in
+      let held : c.deref_mut.result.now ≡ before.parts.ports = c.deref_mut.ensures.value ∙ ap (λ (y : ControlBlock). y.parts.ports) c.self.view_is in
+      serves_makes k n _ before _ out _ _
+      (send_is time c.args.d.0 c.args.a c.args.b c.args.imm x before.parts end c.in-Ok.between.address c.in-Ok.ensures.call c.in-Ok.ensures.end c.in-Ok.ensures.address
+      ∙ send_makes c.push.result end _ c.words_at-m.result _ _ c.push.new.self (there_at before.parts.ports c.deref_mut.result.now end c.index-deref_mut-port.result held c.in-Ok.ensures.named) ok c.push.ensures.room c.push.ensures.pushed
+      (c.words_at-m.ensures ∙ ap (λ l. words_at l c.in-Ok.between.address) (c.deref.ensures.value ∙ ap (λ (y : ControlBlock). y.parts.memory) c.self.view_is)))
+      (c.go_on.ensures x (ap (λ (y : ControlBlock). slice_get y.parts.contexts c.args.d.0) c.self.view_is ∙ there)
+      ∙ port_changed _ before _ end c.push.new.self c.args.d.0 x c.self.view_is (put_back c.self.inside.ports.items c.deref_mut.result.now end c.push.new.self c.deref_mut.ensures.value));
+}
