@@ -1,23 +1,19 @@
 -- What a kernel call on the table of a block comes to.
-use Rattle.std.proofs.Common.{◌≡◌, ℕ, ◌+◌, ◌*◌, ◌<◌, ◌≤◌, List, Bool, Option, Some, None, refl, sym, ap, ◌∙◌, subst, arith, length, map, slice_get}
-use Rattle.std.specs.Option.{option_map}
+use Rattle.std.proofs.Common.{◌≡◌, ℕ, ◌<◌, ◌≤◌, List, Bool, Some, None, sym, ap, ◌∙◌, subst, arith, length, map, slice_get}
 use Rattle.std.proofs.lemmas.List.{length-map}
-use Rattle.std.proofs.lemmas.Option.{slice_get-map, slice_get_within}
-use Rattle.dc_base.specs.declared.dispatchers.Wait.{Wait}
+use Rattle.std.proofs.lemmas.Option.{slice_get_within}
 use Rattle.dc_base.specs.declared.messages.Message.{Message}
 use Rattle.dc_base.specs.Words.{Each}
 use Rattle.dc_base.specs.Capabilities.{cap_at}
-use Rattle.dc_base.specs.Effects.{Context, reg, at_next_place}
+use Rattle.dc_base.specs.Effects.{Context, reg}
 use Rattle.dc_base.specs.Kernel.{Call, faults, makes, with_next_place, retype_call}
 use Rattle.dc_base.specs.Parts.{Parts}
 use Rattle.dc_base.specs.ControlBlocks.{ControlBlock}
-use Rattle.dc_base.specs.Serving.{Outside, faulted, served, serve}
-use Rattle.dc_isa.specs.declared.dispatchers.Dispatcher.{Dispatcher}
+use Rattle.dc_base.specs.Serving.{Outside}
 use Rattle.dc_caps.specs.Caps.{Caps}
 use Rattle.dc_exec.specs.Steps.{context_of}
-use Rattle.dc_kcb.specs.Controls.{Store, Agenda, control_of, state_of}
+use Rattle.dc_kcb.specs.Controls.{Agenda, control_of, state_of}
 use Rattle.dc_kernel.specs.declared.answers.Answer.TheVariants as answer
-use Rattle.dc_kernel.specs.Contexts.{at_context}
 use Rattle.dc_kernel.specs.Serves.{Serves, IsRunning}
 use Rattle.dc_kernel.proofs.CallContexts.{running_within, running_places}
 use Rattle.dc_kernel.proofs.CallServed.{serves_faults, serves_makes}

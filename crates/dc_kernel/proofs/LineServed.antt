@@ -1,15 +1,13 @@
 -- What a kernel call on a line comes to.
 use Rattle.std.proofs.Common.{◌≡◌, ℕ, List, Bool, true, false, Option, Some, None, refl, sym, ap, subst, ◌∙◌}
-use Rattle.std.specs.Prelude.{IsOk, Ok, Err, Result, OnOk, if◌then◌else◌, is_none, length}
+use Rattle.std.specs.Prelude.{Ok, Result, OnOk, if◌then◌else◌, is_none}
 use Rattle.dc_base.specs.declared.capabilities.Cap.{Cap}
-use Rattle.dc_base.specs.declared.capabilities.CapKind.TheVariants.{Line as of_line}
-use Rattle.dc_base.specs.declared.dispatchers.Wait.{Wait}
-use Rattle.dc_base.specs.Capabilities.{Seat, cap_at, is_used, with_root}
+use Rattle.dc_base.specs.Capabilities.{Seat, is_used}
 use Rattle.dc_base.specs.ControlBlocks.{ControlBlock}
 use Rattle.dc_base.specs.Kernel.{Call, faults, binds, gives, claims, claim_call, with_claimed}
 use Rattle.dc_base.specs.Lines.{Wire, rights_over}
 use Rattle.dc_base.specs.Parts.{Parts}
-use Rattle.dc_base.specs.Serving.{Outside, line_outside, faulted, served, serve, serve_claim}
+use Rattle.dc_base.specs.Serving.{line_outside, faulted, served, serve, serve_claim}
 use Rattle.dc_caps.specs.declared.faults.CapFault.{CapFault}
 use Rattle.dc_caps.specs.declared.faults.CapFault.TheVariants.{UsedSlot}
 use Rattle.dc_caps.specs.Outcomes.{answer_of, root_fault}

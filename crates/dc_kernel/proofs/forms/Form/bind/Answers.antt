@@ -1,12 +1,10 @@
-use Rattle.std.proofs.Common.{rules, sym, ap, ◌∙◌, map}
+use Rattle.std.proofs.Common.{rules, sym, ◌∙◌, map}
 use Rattle.dc_base.specs.Capabilities.{slot_number}
-use Rattle.dc_base.specs.ControlBlocks.{ControlBlock}
 use Rattle.dc_base.specs.Instructions.{is_proper}
-use Rattle.dc_base.specs.Kernel.{Call, faults, call_of, with_next_place, bind_call}
-use Rattle.dc_caps.specs.Outcomes.{trap_of}
+use Rattle.dc_base.specs.Kernel.{call_of, with_next_place, bind_call}
 use Rattle.dc_kernel.proofs.CallServed.{serves_faults}
 use Rattle.dc_kernel.proofs.CapsNeeded.{two_held}
-use Rattle.dc_kernel.proofs.CapsServed.{Runs, disp_within, disp_below, caps_are, moved_on}
+use Rattle.dc_kernel.proofs.CapsServed.{Runs, disp_below, caps_are}
 use Rattle.dc_kernel.proofs.LineServed.{bind_missed, bind_serves}
 use Rattle.dc_kernel.proofs.forms.Form.bind.Goals as goal
 

@@ -1,13 +1,10 @@
-use Rattle.std.proofs.Common.{◌≡◌, false, rules, Ok, refl, sym, ap, subst, ◌∙◌, map}
-use Rattle.std.specs.Prelude.{is_some, IsOk, OnOk}
-use Rattle.dc_base.specs.Capabilities.{slot_number, is_used, without_line, with_root}
+use Rattle.std.proofs.Common.{◌≡◌, false, rules, refl, sym, ap, subst, ◌∙◌, map}
+use Rattle.std.specs.Prelude.{is_some, IsOk}
+use Rattle.dc_base.specs.Capabilities.{slot_number, is_used, with_root}
 use Rattle.dc_base.specs.declared.capabilities.CapKind.TheVariants.{Line as of_line}
-use Rattle.dc_base.specs.ControlBlocks.{ControlBlock}
 use Rattle.dc_base.specs.Instructions.{is_proper}
-use Rattle.dc_base.specs.Kernel.{Call, faults, call_of, with_next_place, claim_call}
-use Rattle.dc_base.specs.Parts.{Parts}
+use Rattle.dc_base.specs.Kernel.{call_of, with_next_place, claim_call}
 use Rattle.dc_caps.specs.Caps.{Caps}
-use Rattle.dc_caps.specs.Outcomes.{trap_of}
 use Rattle.dc_kernel.proofs.CallServed.{serves_faults}
 use Rattle.dc_kernel.proofs.CapsNeeded.{two_held, used_where}
 use Rattle.dc_kernel.proofs.CapsServed.{Runs, disp_within, disp_below, caps_are, moved_on}

@@ -1,15 +1,11 @@
-use Rattle.std.proofs.Common.{◌≡◌, rules, Ok, refl, sym, ap, subst, ◌∙◌, map}
-use Rattle.std.specs.Prelude.{is_some, IsOk, OnOk}
-use Rattle.dc_base.specs.Capabilities.{slot_number, is_used, without_line, with_root}
-use Rattle.dc_base.specs.ControlBlocks.{ControlBlock}
+use Rattle.std.proofs.Common.{◌≡◌, rules, sym, ap, ◌∙◌, map}
+use Rattle.dc_base.specs.Capabilities.{slot_number, without_line}
 use Rattle.dc_base.specs.Instructions.{is_proper}
-use Rattle.dc_base.specs.Kernel.{Call, faults, call_of, with_next_place, give_call}
-use Rattle.dc_base.specs.Parts.{Parts}
+use Rattle.dc_base.specs.Kernel.{call_of, with_next_place, give_call}
 use Rattle.dc_caps.specs.Caps.{Caps}
-use Rattle.dc_caps.specs.Outcomes.{trap_of}
 use Rattle.dc_kernel.proofs.CallServed.{serves_faults}
-use Rattle.dc_kernel.proofs.CapsNeeded.{two_held, used_where}
-use Rattle.dc_kernel.proofs.CapsServed.{Runs, disp_within, disp_below, caps_are, moved_on}
+use Rattle.dc_kernel.proofs.CapsNeeded.{two_held}
+use Rattle.dc_kernel.proofs.CapsServed.{Runs, disp_below, caps_are, moved_on}
 use Rattle.dc_kernel.proofs.LineServed.{give_missed, give_serves}
 use Rattle.dc_kernel.proofs.forms.Form.give.Goals as goal
 

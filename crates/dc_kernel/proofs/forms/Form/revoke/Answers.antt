@@ -1,4 +1,4 @@
-use Rattle.std.proofs.Common.{rules, sym, ◌∙◌, map}
+use Rattle.std.proofs.Common.{rules, map}
 use Rattle.dc_base.specs.Kernel.{call_of}
 use Rattle.dc_base.specs.Instructions.{is_proper}
 use Rattle.dc_caps.specs.Outcomes.{trap_of}
