@@ -2,7 +2,6 @@
 use Rattle.std.proofs.Common.{◌≡◌, ℕ, ◌+◌, ◌<◌, ◌^◌, List, [], ◌∷◌, Bool, true, false, Option, Some, None, refl, sym, ap, ◌∙◌, subst, rules}
 use Rattle.std.specs.Prelude.{IsTrue, length, nat_lt, nat_le, not, ◌==◌, ◌&&◌, ◌||◌, ◌/◌, ◌%◌, if◌then◌else◌, is_some, is_none}
 use Rattle.std.specs.Option.{option_map}
-use Rattle.dc_base.specs.declared.calls.Need.{Need}
 use Rattle.dc_base.specs.declared.calls.Need.TheVariants.{Nothing}
 use Rattle.dc_base.specs.declared.capabilities.Cap.{Cap}
 use Rattle.dc_base.specs.declared.capabilities.CapKind.{CapKind}

@@ -1,52 +1,22 @@
 -- What a kernel call on the table of a block comes to.
-use Rattle.std.proofs.Common.{◌≡◌, ℕ, ◌+◌, ◌*◌, ◌<◌, ◌≤◌, List, Bool, Option, Some, None, refl, sym, ap, ◌∙◌, subst, arith, length, map, slice_get}
-use Rattle.std.specs.Option.{option_map}
+use Rattle.std.proofs.Common.{◌≡◌, ℕ, ◌<◌, ◌≤◌, List, Bool, Some, None, sym, ap, ◌∙◌, subst, arith, length, map, slice_get}
 use Rattle.std.proofs.lemmas.List.{length-map}
-use Rattle.std.proofs.lemmas.Option.{slice_get-map, slice_get_within}
-use Rattle.dc_base.specs.declared.dispatchers.Wait.{Wait}
+use Rattle.std.proofs.lemmas.Option.{slice_get_within}
 use Rattle.dc_base.specs.declared.messages.Message.{Message}
 use Rattle.dc_base.specs.Words.{Each}
 use Rattle.dc_base.specs.Capabilities.{cap_at}
-use Rattle.dc_base.specs.Effects.{Context, reg, at_next_place}
+use Rattle.dc_base.specs.Effects.{Context, reg}
 use Rattle.dc_base.specs.Kernel.{Call, faults, makes, with_next_place, retype_call}
 use Rattle.dc_base.specs.Parts.{Parts}
 use Rattle.dc_base.specs.ControlBlocks.{ControlBlock}
-use Rattle.dc_base.specs.Serving.{Outside, faulted, served, serve}
-use Rattle.dc_isa.specs.declared.dispatchers.Dispatcher.{Dispatcher}
+use Rattle.dc_base.specs.Serving.{Outside}
 use Rattle.dc_caps.specs.Caps.{Caps}
 use Rattle.dc_exec.specs.Steps.{context_of}
-use Rattle.dc_kcb.specs.Controls.{Store, Agenda, control_of, state_of}
+use Rattle.dc_kcb.specs.Controls.{Agenda, control_of, state_of}
 use Rattle.dc_kernel.specs.declared.answers.Answer.TheVariants as answer
-use Rattle.dc_kernel.specs.Contexts.{at_context}
-use Rattle.dc_kernel.specs.Serves.{Serves, IsRunning, answered}
-
-pub context_there : (disps : List Dispatcher) (d : ℕ) (v : Dispatcher) → slice_get disps d ≡ Some v → slice_get (map context_of disps) d ≡ Some (context_of v)
-context_there disps d v e = slice_get-map context_of disps d ∙ ap (option_map context_of) e
-
-pub same_context : (disps : List Dispatcher) (d : ℕ) (v : Dispatcher) (x : Context) → slice_get disps d ≡ Some v → slice_get (map context_of disps) d ≡ Some x → context_of v ≡ x
-same_context disps d v x e f = let s : Some (context_of v) ≡ Some x = sym (context_there disps d v e) ∙ f in cc
-
--- the place of a dispatcher moves on
-
-pub place_fits : (disps : List Dispatcher) (d : ℕ) (v : Dispatcher) → slice_get disps d ≡ Some v → Each (map context_of disps) (λ d (c : Context). c.place ≤ 65535) → v.place ≤ 65535
-place_fits disps d v e h = h d (context_of v) (context_there disps d v e)
-
-pub goes_on : (a a' : Agenda) (d : ℕ) (v : Dispatcher) → slice_get a.disps d ≡ Some v → ((s : Store) → control_of s a' ≡ at_context d (record { regs = v.regs; place = v.place + 1 }) (control_of s a)) → (s : Store) (x : Context) → slice_get (map context_of a.disps) d ≡ Some x → control_of s a' ≡ at_context d (at_next_place x) (control_of s a)
-goes_on a a' d v e moved s x f = moved s ∙ ap (λ (c : Context). at_context d (at_next_place c) (control_of s a)) (same_context a.disps d v x e f)
-
--- a call that faults, and one that is made
-
-pub fault_serves : (c n : ℕ) (call : Call) (x : ControlBlock) (out : Outside) (y : ℕ) → call ≡ faults y → Serves c n call x x out out (answer.Fault y)
-unfolding serve
-fault_serves c n call x out y e = record { answer = ap (λ k. serve c n k out) (sym e); rest = refl; kept = (refl, refl) }
-
-pub made_serves : (c n : ℕ) (call : Call) (x after : ControlBlock) (out : Outside) (w : Option Wait) (p : Parts) → call ≡ makes w p → after ≡ record x { parts = p } → Serves c n call x after out out (answer.Made w)
-unfolding serve
-made_serves c n call x after out w p e f = record {
-  answer = ap (λ (y : ControlBlock). served w y.parts out) f ∙ ap (λ k. serve c n k out) (sym e);
-  rest = f ∙ ap (λ (y : ControlBlock). record x { parts = y.parts }) (sym f);
-  kept = tt;
-}
+use Rattle.dc_kernel.specs.Serves.{Serves, IsRunning}
+use Rattle.dc_kernel.proofs.CallContexts.{running_within, running_places}
+use Rattle.dc_kernel.proofs.CallServed.{serves_faults, serves_makes}
 
 -- the registers of a context tell a part of raw memory
 pub retype_at : (from slot : ℕ) (into : Bool) (t : Caps) (w v : Context) (comes : Parts → Call) → w ≡ v → ((p : Parts) → p.caps ≡ t.set → length p.code ≡ t.disps → retype_call from slot into (reg w 6) (reg w 7) p (cap_at p.caps from) ≡ comes p) → (p : Parts) → p.caps ≡ t.set → length p.code ≡ t.disps → retype_call from slot into (reg v 6) (reg v 7) p (cap_at p.caps from) ≡ comes p
@@ -63,40 +33,39 @@ pub record Runs (memory : List ℕ) (code : List (List ℕ)) (ports : List (List
   pub run : IsRunning d x
 
 module _ {memory : List ℕ} {code : List (List ℕ)} {ports : List (List Message)} {t : Caps} {a : Agenda} {x : ControlBlock} {d : ℕ} (h : Runs memory code ports t a x d) where
-  pub disp_there : d < length a.disps
-  disp_there = subst (λ n. d < n) (length-map a.disps state_of) (slice_get_within (map state_of a.disps) d _ (ap (λ (y : ControlBlock). slice_get y.states d) h.seen ∙ h.run.state))
-
-  pub disp_within : d < t.disps
-  disp_within = subst (λ n. d < n) (sym h.same) disp_there
-
-  pub places_within : Each (map context_of a.disps) (λ d (c : Context). c.place ≤ 65535)
-  places_within = subst (λ (y : ControlBlock). Each y.parts.contexts (λ d (c : Context). c.place ≤ 65535)) (sym h.seen) h.run.rest.dispatchers.places
-
-  pub caps_are : x.parts.caps ≡ t.set
-  caps_are = ap (λ (y : ControlBlock). y.parts.caps) (sym h.seen)
-
   pub disps_are : length x.states ≡ t.disps
   disps_are = ap (λ (y : ControlBlock). length y.states) (sym h.seen) ∙ length-map a.disps state_of ∙ sym h.same
 
-  pub code_is : length x.parts.code ≡ t.disps
-  code_is = h.run.rest.shape.code ∙ disps_are
+  pub disp_within : d < t.disps
+  disp_within = subst (λ n. d < n) disps_are (slice_get_within x.states d _ h.run.state)
 
   pub disp_below : d < 16
   disp_below = let few = subst (λ n. n ≤ 16) disps_are h.run.rest.shape.disps in let lt = disp_within in omega (arith, few, lt)
 
-  pub context_is : (w : Dispatcher) (v : Context) → slice_get a.disps d ≡ Some w → slice_get x.parts.contexts d ≡ Some v → context_of w ≡ v
-  context_is w v e f = same_context a.disps d w v e (ap (λ (y : ControlBlock). slice_get y.parts.contexts d) h.seen ∙ f)
+  pub caps_are : x.parts.caps ≡ t.set
+  caps_are = ap (λ (y : ControlBlock). y.parts.caps) (sym h.seen)
+
+  pub code_is : length x.parts.code ≡ t.disps
+  code_is = h.run.rest.shape.code ∙ disps_are
+
+  -- with other capabilities, the dispatcher may go on
+
+  pub context_within : d < length (map context_of a.disps)
+  context_within = subst (λ (y : ControlBlock). d < length y.parts.contexts) (sym h.seen) (running_within x d h.run)
+
+  pub places_within : Each (map context_of a.disps) (λ d (c : Context). c.place ≤ 65535)
+  places_within = subst (λ (y : ControlBlock). Each y.parts.contexts (λ d (c : Context). c.place ≤ 65535)) (sym h.seen) (running_places x d h.run)
 
   -- a call on the table faults, and leaves it
 
   pub refused : (t' : Caps) → t' ≡ t → (y z : ℕ) → y ≡ z → (call : Parts → Call) → ((p : Parts) → p.caps ≡ t.set → length p.code ≡ t.disps → call p ≡ faults z) → (v : Context) (c n : ℕ) (out : Outside) → Serves c n (call (with_next_place d v x.parts)) x (block memory code ports t' a) out out (answer.Fault y)
-  refused t' e y z i call f v c n out = subst (λ after. Serves c n (call (with_next_place d v x.parts)) x after out out (answer.Fault y)) (sym (ap (λ t. block memory code ports t a) e ∙ h.seen)) (fault_serves c n (call (with_next_place d v x.parts)) x out y (f _ caps_are code_is ∙ ap faults (sym i)))
+  refused t' e y z i call f v c n out = subst (λ after. Serves c n (call (with_next_place d v x.parts)) x after out out (answer.Fault y)) (sym (ap (λ t. block memory code ports t a) e ∙ h.seen)) (serves_faults c n (call (with_next_place d v x.parts)) x x out z y (f _ caps_are code_is) i)
 
   -- it is made, and the place moves on
 
-  module _ (a' : Agenda) (moved : (s : Store) (x : Context) → slice_get (map context_of a.disps) d ≡ Some x → control_of s a' ≡ at_context d (at_next_place x) (control_of s a)) (t' : Caps) (v : Context) (e : slice_get x.parts.contexts d ≡ Some v) where
-    pub moved_on : block memory code ports t' a' ≡ record x { parts = record (with_next_place d v x.parts) { caps = t'.set } }
-    moved_on = moved _ v (ap (λ (y : ControlBlock). slice_get y.parts.contexts d) h.seen ∙ e) ∙ ap (λ (y : ControlBlock). record y { parts = record (with_next_place d v y.parts) { caps = t'.set } }) h.seen
+  module _ (t' : Caps) (after : ControlBlock) (gone : (v : Context) → slice_get (map context_of a.disps) d ≡ Some v → after ≡ record (block memory code ports t' a) { parts = with_next_place d v (block memory code ports t' a).parts }) (v : Context) (e : slice_get x.parts.contexts d ≡ Some v) where
+    pub moved_on : after ≡ record x { parts = record (with_next_place d v x.parts) { caps = t'.set } }
+    moved_on = gone v (ap (λ (y : ControlBlock). slice_get y.parts.contexts d) h.seen ∙ e) ∙ ap (λ (y : ControlBlock). record y { parts = record (with_next_place d v y.parts) { caps = t'.set } }) h.seen
 
-    pub done : (call : Parts → Call) → ((p : Parts) → p.caps ≡ t.set → length p.code ≡ t.disps → call p ≡ makes None (record p { caps = t'.set })) → (c n : ℕ) (out : Outside) → Serves c n (call (with_next_place d v x.parts)) x (block memory code ports t' a') out out (answer.Made None)
-    done call f c n out = made_serves c n (call (with_next_place d v x.parts)) x (block memory code ports t' a') out None _ (f _ caps_are code_is) moved_on
+    pub done : (call : Parts → Call) → ((p : Parts) → p.caps ≡ t.set → length p.code ≡ t.disps → call p ≡ makes None (record p { caps = t'.set })) → (c n : ℕ) (out : Outside) → Serves c n (call (with_next_place d v x.parts)) x after out out (answer.Made None)
+    done call f c n out = serves_makes c n (call (with_next_place d v x.parts)) x after out None (record (with_next_place d v x.parts) { caps = t'.set }) (f _ caps_are code_is) moved_on

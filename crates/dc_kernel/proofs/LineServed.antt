@@ -1,15 +1,13 @@
 -- What a kernel call on a line comes to.
 use Rattle.std.proofs.Common.{◌≡◌, ℕ, List, Bool, true, false, Option, Some, None, refl, sym, ap, subst, ◌∙◌}
-use Rattle.std.specs.Prelude.{IsOk, Ok, Err, Result, OnOk, if◌then◌else◌, is_none, length}
+use Rattle.std.specs.Prelude.{Ok, Result, OnOk, if◌then◌else◌, is_none}
 use Rattle.dc_base.specs.declared.capabilities.Cap.{Cap}
-use Rattle.dc_base.specs.declared.capabilities.CapKind.TheVariants.{Line as of_line}
-use Rattle.dc_base.specs.declared.dispatchers.Wait.{Wait}
-use Rattle.dc_base.specs.Capabilities.{Seat, cap_at, is_used, with_root}
+use Rattle.dc_base.specs.Capabilities.{Seat, is_used}
 use Rattle.dc_base.specs.ControlBlocks.{ControlBlock}
 use Rattle.dc_base.specs.Kernel.{Call, faults, binds, gives, claims, claim_call, with_claimed}
 use Rattle.dc_base.specs.Lines.{Wire, rights_over}
 use Rattle.dc_base.specs.Parts.{Parts}
-use Rattle.dc_base.specs.Serving.{Outside, line_outside, faulted, served, serve, serve_claim}
+use Rattle.dc_base.specs.Serving.{line_outside, faulted, served, serve, serve_claim}
 use Rattle.dc_caps.specs.declared.faults.CapFault.{CapFault}
 use Rattle.dc_caps.specs.declared.faults.CapFault.TheVariants.{UsedSlot}
 use Rattle.dc_caps.specs.Outcomes.{answer_of, root_fault}
@@ -18,19 +16,9 @@ use Rattle.dc_kernel.specs.declared.outsides.Outside.{Outside as Held}
 use Rattle.dc_kernel.specs.declared.outsides.Outside.TheVariants as outside
 use Rattle.dc_kernel.specs.Outsides.{outside_seen}
 use Rattle.dc_kernel.specs.Serves.{Serves}
+use Rattle.dc_kernel.proofs.CallServed.{serves_made, serves_fault}
 
 module _ (c n : ℕ) (call : Call) (x : ControlBlock) where
-  -- it is served, or faults
-  served_serves : (after : ControlBlock) (out out' : Outside) (w : Option Wait) (p : Parts) → serve c n call out ≡ served w p out' → after ≡ record x { parts = p } → Serves c n call x after out out' (answer.Made w)
-  served_serves after out out' w p e f = record {
-    answer = ap (λ (y : ControlBlock). served w y.parts out') f ∙ sym e;
-    rest = f ∙ ap (λ (y : ControlBlock). record x { parts = y.parts }) (sym f);
-    kept = tt;
-  }
-
-  faulted_serves : (out out' : Outside) (y : ℕ) → out' ≡ out → serve c n call out ≡ faulted y → Serves c n call x x out out' (answer.Fault y)
-  faulted_serves out out' y e f = record { answer = sym f; rest = refl; kept = (refl, e) }
-
   -- there is no such line
 
   abbrev IsNoLine : Held → Type 0
@@ -38,7 +26,7 @@ module _ (c n : ℕ) (call : Call) (x : ControlBlock) where
 
   pub bind_missed : (l s : ℕ) (p : Parts) (o : Held) → call ≡ binds l s p → IsNoLine o → Serves c n call x x (outside_seen o) (outside_seen o) (answer.Fault 12)
   unfolding serve
-  bind_missed l s p o e f = faulted_serves _ _ 12 refl (ap (λ k. serve c n k (outside_seen o)) e ∙ by_held o f)
+  bind_missed l s p o e f = serves_fault c n call x x _ _ 12 refl refl (ap (λ k. serve c n k (outside_seen o)) e ∙ by_held o f)
     where
       by_held : (o : Held) → IsNoLine o → serve c n (binds l s p) (outside_seen o) ≡ faulted 12
       by_held outside.Nothing f = refl
@@ -48,7 +36,7 @@ module _ (c n : ℕ) (call : Call) (x : ControlBlock) where
 
   pub give_missed : (l y r : ℕ) (p : Parts) (o : Held) → call ≡ gives l y r p → IsNoLine o → Serves c n call x x (outside_seen o) (outside_seen o) (answer.Fault 12)
   unfolding serve
-  give_missed l y r p o e f = faulted_serves _ _ 12 refl (ap (λ k. serve c n k (outside_seen o)) e ∙ by_held o f)
+  give_missed l y r p o e f = serves_fault c n call x x _ _ 12 refl refl (ap (λ k. serve c n k (outside_seen o)) e ∙ by_held o f)
     where
       by_held : (o : Held) → IsNoLine o → serve c n (gives l y r p) (outside_seen o) ≡ faulted 12
       by_held outside.Nothing f = refl
@@ -58,7 +46,7 @@ module _ (c n : ℕ) (call : Call) (x : ControlBlock) where
 
   pub claim_missed : (l y slot : ℕ) (p : Parts) (o : Held) → call ≡ claims l y slot p → IsNoLine o → Serves c n call x x (outside_seen o) (outside_seen o) (answer.Fault 12)
   unfolding serve
-  claim_missed l y slot p o e f = faulted_serves _ _ 12 refl (ap (λ k. serve c n k (outside_seen o)) e ∙ by_held o f)
+  claim_missed l y slot p o e f = serves_fault c n call x x _ _ 12 refl refl (ap (λ k. serve c n k (outside_seen o)) e ∙ by_held o f)
     where
       by_held : (o : Held) → IsNoLine o → serve c n (claims l y slot p) (outside_seen o) ≡ faulted 12
       by_held outside.Nothing f = refl
@@ -74,20 +62,20 @@ module _ (c n : ℕ) (call : Call) (x : ControlBlock) where
 
     pub bind_serves : (l s : ℕ) (p : Parts) (after : ControlBlock) → call ≡ binds l s p → w' ≡ record w { bound = Some (n, s); route = Some c } → after ≡ record x { parts = p } → Serves c n call x after (outside_seen o) (line_outside w') (answer.Made None)
     unfolding serve
-    bind_serves l s p after e f g = served_serves after _ _ None p (seen_there (binds l s p) e ∙ ap (λ (w : Wire). served None p (line_outside w)) (sym f)) g
+    bind_serves l s p after e f g = serves_made c n call x after _ _ None p g (seen_there (binds l s p) e ∙ ap (λ (w : Wire). served None p (line_outside w)) (sym f))
 
     pub give_serves : (l y r : ℕ) (p : Parts) (after : ControlBlock) → call ≡ gives l y r p → w' ≡ record w { bound = None; offer = Some (y, r) } → after ≡ record x { parts = p } → Serves c n call x after (outside_seen o) (line_outside w') (answer.Made None)
     unfolding serve
-    give_serves l y r p after e f g = served_serves after _ _ None p (seen_there (gives l y r p) e ∙ ap (λ (w : Wire). served None p (line_outside w)) (sym f)) g
+    give_serves l y r p after e f g = serves_made c n call x after _ _ None p g (seen_there (gives l y r p) e ∙ ap (λ (w : Wire). served None p (line_outside w)) (sym f))
 
     pub claim_serves : (l y slot r : ℕ) (p : Parts) (after : ControlBlock) → call ≡ claims l y slot p → rights_over y w.offer ≡ Some r → w' ≡ record w { offer = None } → after ≡ record x { parts = with_claimed l slot r p } → Serves c n call x after (outside_seen o) (line_outside w') (answer.Made None)
     unfolding serve
-    claim_serves l y slot r p after e i f g = served_serves after _ _ None (with_claimed l slot r p) (seen_there (claims l y slot p) e ∙ ap (serve_claim l slot p w) i ∙ ap (λ (w : Wire). served None (with_claimed l slot r p) (line_outside w)) (sym f)) g
+    claim_serves l y slot r p after e i f g = serves_made c n call x after _ _ None (with_claimed l slot r p) g (seen_there (claims l y slot p) e ∙ ap (serve_claim l slot p w) i ∙ ap (λ (w : Wire). served None (with_claimed l slot r p) (line_outside w)) (sym f))
 
     -- it is not offered over the channel
     pub claim_unoffered : (l y slot : ℕ) (p : Parts) → call ≡ claims l y slot p → rights_over y w.offer ≡ None → w' ≡ w → Serves c n call x x (outside_seen o) (line_outside w') (answer.Fault 12)
     unfolding serve
-    claim_unoffered l y slot p e i f = faulted_serves (outside_seen o) (line_outside w') 12 (ap (λ (w : Wire). line_outside w) f ∙ ap outside_seen (sym there)) (seen_there (claims l y slot p) e ∙ ap (serve_claim l slot p w) i)
+    claim_unoffered l y slot p e i f = serves_fault c n call x x (outside_seen o) (line_outside w') 12 refl (ap (λ (w : Wire). line_outside w) f ∙ ap outside_seen (sym there)) (seen_there (claims l y slot p) e ∙ ap (serve_claim l slot p w) i)
 
 -- a line is claimed into a slot that is free
 

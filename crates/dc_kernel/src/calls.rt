@@ -6,7 +6,6 @@ mod ends;
 mod lines;
 mod needs;
 mod messages;
-mod places;
 mod ports;
 mod prints;
 mod removals;

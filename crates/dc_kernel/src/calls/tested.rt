@@ -1,6 +1,6 @@
 //! What the capabilities of a call name, or why it is not made.
 
-ghost use Rattle.std.specs.Prelude.{◌≡◌, ℕ, ◌<◌, ◌≤◌, ◌^◌, ◌==◌, IfOk, IfSome, bit_and};
+ghost use Rattle.std.specs.Prelude.{◌≡◌, ℕ, ◌<◌, ◌≤◌, ◌^◌, IfOk, IfSome};
 ghost use Rattle.dc_base.specs.declared.messages.Message.{Message};
 ghost use Rattle.dc_kernel.specs.declared.calls.tested.Gift.{Gift as Gifted};
 ghost use Rattle.dc_base.specs.Capabilities.{is_used, is_send_end, is_recv_end, read_right, write_right};
@@ -9,15 +9,10 @@ ghost use Rattle.dc_base.specs.Parts.{Parts};
 ghost use Rattle.dc_caps.specs.Caps.{IsCap};
 ghost use Rattle.dc_kernel.specs.Tested.{bind_tested, give_tested, claim_tested, csend_tested, crecv_tested};
 
+use crate::calls::ends::{READ, WRITE, is_without};
 use dc_base::capabilities::{Cap, CapKind};
 use dc_base::numbers::{ChanNo, LineNo, SignalNo};
 use dc_caps::CapFault;
-
-/// The right to read.
-const READ: u8 = 1;
-
-/// The right to write.
-const WRITE: u8 = 2;
 
 /// The right to give away.
 const GRANT: u8 = 4;
@@ -33,13 +28,6 @@ pub(super) struct Gift {
     pub(super) rights: u8,
 }
 
-/// Whether it lacks a right.
-fn lacks(cap: Cap, right: u8) -> bool
-    ensures { result ≡ (bit_and cap.rights right == 0) }
-{
-    cap.rights & right == 0
-}
-
 /// The line that is bound, and the signal that it is bound to.
 pub(super) fn to_bind(a: Option<Cap>, b: Option<Cap>) -> Result<(LineNo, SignalNo), CapFault>
     ensures { (p : Parts) → bind_call p a b ≡ bind_tested p result }
@@ -50,7 +38,7 @@ pub(super) fn to_bind(a: Option<Cap>, b: Option<Cap>) -> Result<(LineNo, SignalN
     let (CapKind::Line(line), CapKind::Signal(signal)) = (a.kind, b.kind) else {
         return Err(CapFault::WrongKind);
     };
-    if lacks(a, WRITE) || lacks(b, WRITE) {
+    if is_without(a, WRITE) || is_without(b, WRITE) {
         return Err(CapFault::NoRight);
     }
     Ok((line, signal))
@@ -68,7 +56,7 @@ pub(super) fn to_give(a: Option<Cap>, b: Option<Cap>) -> Result<Gift, CapFault>
     let (CapKind::SendEnd(channel), CapKind::Line(line)) = (a.kind, b.kind) else {
         return Err(CapFault::WrongKind);
     };
-    if lacks(a, WRITE) || lacks(b, GRANT) {
+    if is_without(a, WRITE) || is_without(b, GRANT) {
         return Err(CapFault::NoRight);
     }
     let rights = b.rights;
@@ -92,7 +80,7 @@ pub(super) fn to_claim(a: Option<Cap>, used: bool) -> Result<ChanNo, CapFault>
     let CapKind::RecvEnd(channel) = a.kind else {
         return Err(CapFault::WrongKind);
     };
-    if lacks(a, READ) {
+    if is_without(a, READ) {
         return Err(CapFault::NoRight);
     }
     Ok(channel)
@@ -109,7 +97,7 @@ pub(super) fn to_csend(a: Option<Cap>, b: Option<Cap>, imm: u32) -> Result<ChanN
     let (CapKind::SendEnd(channel), CapKind::Frame { length, .. }) = (a.kind, b.kind) else {
         return Err(CapFault::WrongKind);
     };
-    if lacks(a, WRITE) || lacks(b, READ) {
+    if is_without(a, WRITE) || is_without(b, READ) {
         return Err(CapFault::NoRight);
     }
     if length < imm + WORDS {
@@ -129,7 +117,7 @@ pub(super) fn to_crecv(a: Option<Cap>, b: Option<Cap>, imm: u32) -> Result<ChanN
     let (CapKind::RecvEnd(channel), CapKind::Frame { length, .. }) = (a.kind, b.kind) else {
         return Err(CapFault::WrongKind);
     };
-    if lacks(a, READ) || lacks(b, WRITE) {
+    if is_without(a, READ) || is_without(b, WRITE) {
         return Err(CapFault::NoRight);
     }
     if length < imm + WORDS {

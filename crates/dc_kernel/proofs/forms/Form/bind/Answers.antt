@@ -1,11 +1,10 @@
-use Rattle.std.proofs.Common.{rules, sym, ap, ◌∙◌, map}
+use Rattle.std.proofs.Common.{rules, sym, ◌∙◌, map}
 use Rattle.dc_base.specs.Capabilities.{slot_number}
-use Rattle.dc_base.specs.ControlBlocks.{ControlBlock}
 use Rattle.dc_base.specs.Instructions.{is_proper}
-use Rattle.dc_base.specs.Kernel.{Call, faults, call_of, with_next_place, bind_call}
-use Rattle.dc_caps.specs.Outcomes.{trap_of}
+use Rattle.dc_base.specs.Kernel.{call_of, with_next_place, bind_call}
+use Rattle.dc_kernel.proofs.CallServed.{serves_faults}
 use Rattle.dc_kernel.proofs.CapsNeeded.{two_held}
-use Rattle.dc_kernel.proofs.CapsServed.{Runs, disp_there, disp_within, disp_below, caps_are, fault_serves, moved_on}
+use Rattle.dc_kernel.proofs.CapsServed.{Runs, disp_below, caps_are}
 use Rattle.dc_kernel.proofs.LineServed.{bind_missed, bind_serves}
 use Rattle.dc_kernel.proofs.forms.Form.bind.Goals as goal
 
@@ -28,7 +27,7 @@ unfolding call_of
 returns-in-Err-clause-served g c =
     let f = c.self.inside in
     let h : Runs f.memory.items (map (λ v. v.items) f.code.items) f.ports.items f.table f.agenda c.args.self.now c.args.d.0 = record { seen = c.self.view_is; same = c.self.invariant; run = c.requires.running } in
-    λ time x e. fault_serves _ _ _ c.args.self.now _ c.trap.result (sym (two_held f.table.set c.args.self.now.parts.caps (caps_are h) (slot_number c.args.d.0 c.args.a) (slot_number c.args.d.0 c.args.b) c.look.result c.look-2.result c.look.ensures.value c.look-2.ensures.value (bind_call (with_next_place c.args.d.0 x c.args.self.now.parts))) ∙ c.in-Err.ensures (with_next_place c.args.d.0 x c.args.self.now.parts) ∙ ap faults (sym c.trap.ensures))
+    λ time x e. serves_faults _ _ _ c.args.self.now c.args.self.now _ _ c.trap.result (sym (two_held f.table.set c.args.self.now.parts.caps (caps_are h) (slot_number c.args.d.0 c.args.a) (slot_number c.args.d.0 c.args.b) c.look.result c.look-2.result c.look.ensures.value c.look-2.ensures.value (bind_call (with_next_place c.args.d.0 x c.args.self.now.parts))) ∙ c.in-Err.ensures (with_next_place c.args.d.0 x c.args.self.now.parts)) c.trap.ensures
 
 pub returns-in_default : goal.returns-in_default
 unfolding call_of

@@ -1,14 +1,11 @@
-use Rattle.std.proofs.Common.{◌≡◌, rules, Ok, refl, sym, ap, subst, ◌∙◌, map}
-use Rattle.std.specs.Prelude.{is_some, IsOk, OnOk}
-use Rattle.dc_base.specs.Capabilities.{slot_number, is_used, without_line, with_root}
-use Rattle.dc_base.specs.ControlBlocks.{ControlBlock}
+use Rattle.std.proofs.Common.{◌≡◌, rules, sym, ap, ◌∙◌, map}
+use Rattle.dc_base.specs.Capabilities.{slot_number, without_line}
 use Rattle.dc_base.specs.Instructions.{is_proper}
-use Rattle.dc_base.specs.Kernel.{Call, faults, call_of, with_next_place, give_call}
-use Rattle.dc_base.specs.Parts.{Parts}
+use Rattle.dc_base.specs.Kernel.{call_of, with_next_place, give_call}
 use Rattle.dc_caps.specs.Caps.{Caps}
-use Rattle.dc_caps.specs.Outcomes.{trap_of}
-use Rattle.dc_kernel.proofs.CapsNeeded.{two_held, used_where}
-use Rattle.dc_kernel.proofs.CapsServed.{Runs, disp_there, disp_within, disp_below, caps_are, fault_serves, moved_on}
+use Rattle.dc_kernel.proofs.CallServed.{serves_faults}
+use Rattle.dc_kernel.proofs.CapsNeeded.{two_held}
+use Rattle.dc_kernel.proofs.CapsServed.{Runs, disp_below, caps_are, moved_on}
 use Rattle.dc_kernel.proofs.LineServed.{give_missed, give_serves}
 use Rattle.dc_kernel.proofs.forms.Form.give.Goals as goal
 
@@ -26,18 +23,12 @@ look-requires-2-clause-disp g c =
     let h : Runs f.memory.items (map (λ v. v.items) f.code.items) f.ports.items f.table f.agenda c.args.self.now c.args.d.0 = record { seen = c.self.view_is; same = c.self.invariant; run = c.requires.running } in
     disp_below h
 
-pub next_place-requires-clause-there : goal.next_place-requires-clause-there
-next_place-requires-clause-there g c =
-    let f = c.self.inside in
-    let h : Runs f.memory.items (map (λ v. v.items) f.code.items) f.ports.items f.table f.agenda c.args.self.now c.args.d.0 = record { seen = c.self.view_is; same = c.self.invariant; run = c.requires.running } in
-    disp_there h
-
 pub returns-in-Err-clause-served : goal.returns-in-Err-clause-served
 unfolding call_of
 returns-in-Err-clause-served g c =
     let f = c.self.inside in
     let h : Runs f.memory.items (map (λ v. v.items) f.code.items) f.ports.items f.table f.agenda c.args.self.now c.args.d.0 = record { seen = c.self.view_is; same = c.self.invariant; run = c.requires.running } in
-    λ y n time x e. fault_serves _ _ _ c.args.self.now _ c.trap.result (sym (two_held f.table.set c.args.self.now.parts.caps (caps_are h) (slot_number c.args.d.0 c.args.a) (slot_number c.args.d.0 c.args.b) c.look.result c.look-2.result c.look.ensures.value c.look-2.ensures.value (give_call (with_next_place c.args.d.0 x c.args.self.now.parts))) ∙ c.in-Err.ensures.call (with_next_place c.args.d.0 x c.args.self.now.parts) ∙ ap faults (sym c.trap.ensures))
+    λ y n time x e. serves_faults _ _ _ c.args.self.now c.args.self.now _ _ c.trap.result (sym (two_held f.table.set c.args.self.now.parts.caps (caps_are h) (slot_number c.args.d.0 c.args.a) (slot_number c.args.d.0 c.args.b) c.look.result c.look-2.result c.look.ensures.value c.look-2.ensures.value (give_call (with_next_place c.args.d.0 x c.args.self.now.parts))) ∙ c.in-Err.ensures.call (with_next_place c.args.d.0 x c.args.self.now.parts)) c.trap.ensures
 
 pub returns-in_default : goal.returns-in_default
 unfolding call_of
@@ -49,9 +40,6 @@ returns-in_default g c =
       kind = λ m i. i;
     }
 
-pub invariant_of-self : goal.invariant_of-self
-invariant_of-self g c = ap (λ (t : Caps). t.disps) c.give.ensures ∙ c.self.invariant ∙ sym c.next_place.ensures.size
-
 pub returns-clause-served : goal.returns-clause-served
 unfolding call_of
 returns-clause-served g c =
@@ -60,4 +48,4 @@ returns-clause-served g c =
     let left : c.give.new.self.set ≡ without_line c.in-Ok.gift.line.0 c.args.self.now.parts.caps = ap (λ (t : Caps). t.set) c.give.ensures ∙ ap (λ set. without_line c.in-Ok.gift.line.0 set) (sym (caps_are h)) in
     λ y n time x e. give_serves _ _ _ c.args.self.now c.args.outside.now c.in-Line.line c.give-2.new.self c.in-Line.is c.in-Ok.gift.line.0 c.in-Ok.gift.channel.0 c.in-Ok.gift.rights (record (with_next_place c.args.d.0 x c.args.self.now.parts) { caps = without_line c.in-Ok.gift.line.0 c.args.self.now.parts.caps }) _
     (sym (two_held f.table.set c.args.self.now.parts.caps (caps_are h) (slot_number c.args.d.0 c.args.a) (slot_number c.args.d.0 c.args.b) c.look.result c.look-2.result c.look.ensures.value c.look-2.ensures.value (give_call (with_next_place c.args.d.0 x c.args.self.now.parts))) ∙ c.in-Ok.ensures.call (with_next_place c.args.d.0 x c.args.self.now.parts)) c.give-2.ensures
-    (moved_on h c.next_place.new.agenda c.next_place.ensures.control c.give.new.self x e ∙ ap (λ set. record c.args.self.now { parts = record (with_next_place c.args.d.0 x c.args.self.now.parts) { caps = set } }) left)
+    (moved_on h c.give.new.self c.go_on.new.self c.go_on.ensures x e ∙ ap (λ set. record c.args.self.now { parts = record (with_next_place c.args.d.0 x c.args.self.now.parts) { caps = set } }) left)

@@ -1,9 +1,10 @@
-use Rattle.std.proofs.Common.{rules, sym, ◌∙◌, map}
+use Rattle.std.proofs.Common.{rules, map}
 use Rattle.dc_base.specs.Kernel.{call_of}
 use Rattle.dc_base.specs.Instructions.{is_proper}
 use Rattle.dc_caps.specs.Outcomes.{trap_of}
 use Rattle.dc_exec.specs.Steps.{context_of}
-use Rattle.dc_kernel.proofs.CapsServed.{Runs, disp_there, context_is, retype_at, refused, done}
+use Rattle.dc_kernel.proofs.CallContexts.{context_is}
+use Rattle.dc_kernel.proofs.CapsServed.{Runs, retype_at, refused, done}
 use Rattle.dc_kernel.proofs.forms.Form.retype.Goals as goal
 
 pub retype-requires-clause-from : goal.retype-requires-clause-from
@@ -14,25 +15,16 @@ pub retype-requires-clause-slot : goal.retype-requires-clause-slot
 unfolding is_proper
 retype-requires-clause-slot g c = search rules
 
-pub next_place-requires-clause-there : goal.next_place-requires-clause-there
-next_place-requires-clause-there g c =
-    let f = c.self.inside in
-    let h : Runs f.memory.items (map (λ v. v.items) f.code.items) f.ports.items f.table f.agenda c.args.self.now c.args.d.0 = record { seen = c.self.view_is; same = c.self.invariant; run = c.requires.running } in
-    disp_there h
-
-pub invariant_of-self-2 : goal.invariant_of-self-2
-invariant_of-self-2 g c = c.in_default.ensures.disps ∙ c.self.invariant ∙ sym c.next_place.ensures.size
-
 pub returns-in-Err : goal.returns-in-Err
 unfolding call_of
 returns-in-Err g c =
     let f = c.self.inside in
     let h : Runs f.memory.items (map (λ v. v.items) f.code.items) f.ports.items f.table f.agenda c.args.self.now c.args.d.0 = record { seen = c.self.view_is; same = c.self.invariant; run = c.requires.running } in
-    record { served = λ n b time out v e. refused h c.retype.new.self c.in-Err.ensures.err c.trap.result (trap_of c.in-Err.fault) c.trap.ensures _ (retype_at _ _ _ f.table (context_of c.disp.result) v _ (context_is h c.disp.result v c.disp.ensures e) c.in-Err.ensures.call) v n b out }
+    record { served = λ n b time out v e. refused h c.retype.new.self c.in-Err.ensures.err c.trap.result (trap_of c.in-Err.fault) c.trap.ensures _ (retype_at _ _ _ f.table (context_of c.disp.result) v _ (context_is _ f.agenda c.args.self.now c.args.d.0 c.disp.result v c.self.view_is c.disp.ensures e) c.in-Err.ensures.call) v n b out }
 
 pub returns : goal.returns
 unfolding call_of
 returns g c =
     let f = c.self.inside in
     let h : Runs f.memory.items (map (λ v. v.items) f.code.items) f.ports.items f.table f.agenda c.args.self.now c.args.d.0 = record { seen = c.self.view_is; same = c.self.invariant; run = c.requires.running } in
-    record { served = λ n b time out v e. done h c.next_place.new.agenda c.next_place.ensures.control c.retype.new.self v e _ (retype_at _ _ _ f.table (context_of c.disp.result) v _ (context_is h c.disp.result v c.disp.ensures e) c.in_default.ensures.call) n b out }
+    record { served = λ n b time out v e. done h c.retype.new.self c.go_on.new.self c.go_on.ensures v e _ (retype_at _ _ _ f.table (context_of c.disp.result) v _ (context_is _ f.agenda c.args.self.now c.args.d.0 c.disp.result v c.self.view_is c.disp.ensures e) c.in_default.ensures.call) n b out }

@@ -1,22 +1,13 @@
-use Rattle.std.proofs.Common.{rules, sym, ◌∙◌, map}
+use Rattle.std.proofs.Common.{rules, map}
 use Rattle.dc_base.specs.Kernel.{call_of}
 use Rattle.dc_base.specs.Instructions.{is_proper}
 use Rattle.dc_caps.specs.Outcomes.{trap_of}
-use Rattle.dc_kernel.proofs.CapsServed.{Runs, disp_there, refused, done}
+use Rattle.dc_kernel.proofs.CapsServed.{Runs, refused, done}
 use Rattle.dc_kernel.proofs.forms.Form.revoke.Goals as goal
 
 pub revoke-requires-clause-slot : goal.revoke-requires-clause-slot
 unfolding is_proper
 revoke-requires-clause-slot g c = search rules
-
-pub next_place-requires-clause-there : goal.next_place-requires-clause-there
-next_place-requires-clause-there g c =
-    let f = c.self.inside in
-    let h : Runs f.memory.items (map (λ v. v.items) f.code.items) f.ports.items f.table f.agenda c.args.self.now c.args.d.0 = record { seen = c.self.view_is; same = c.self.invariant; run = c.requires.running } in
-    disp_there h
-
-pub invariant_of-self-2 : goal.invariant_of-self-2
-invariant_of-self-2 g c = c.in_default.ensures.disps ∙ c.self.invariant ∙ sym c.next_place.ensures.size
 
 pub returns-in-Err : goal.returns-in-Err
 unfolding call_of
@@ -30,4 +21,4 @@ unfolding call_of
 returns g c =
     let f = c.self.inside in
     let h : Runs f.memory.items (map (λ v. v.items) f.code.items) f.ports.items f.table f.agenda c.args.self.now c.args.d.0 = record { seen = c.self.view_is; same = c.self.invariant; run = c.requires.running } in
-    record { served = λ n b time out v e. done h c.next_place.new.agenda c.next_place.ensures.control c.revoke.new.self v e _ c.in_default.ensures.call n b out }
+    record { served = λ n b time out v e. done h c.revoke.new.self c.go_on.new.self c.go_on.ensures v e _ c.in_default.ensures.call n b out }
