@@ -1,5 +1,5 @@
 -- What firing leaves as it was.
-use Rattle.std.proofs.Common.{◌≡◌, ℕ, zero, suc, Option, Some, None, refl, ◌∙◌, length}
+use Rattle.std.proofs.Common.{◌≡◌, ℕ, zero, suc, Option, Some, None, refl, ◌∙◌}
 use Rattle.dc_base.specs.declared.interrupts.Timer.{Timer}
 use Rattle.dc_base.specs.ControlBlocks.{ControlBlock}
 use Rattle.dc_base.specs.Firing.{wake, latch_in, after_firing, fire_if, fire_from, fire_all}

@@ -158,8 +158,8 @@ module _ (now q : ℕ) (x : ControlBlock) (offset : ℤ) (v : Version) (f : Forw
       let code : List ℕ = slice_index_or after'.parts.code d.0 [] in
       let context_at = slice_get-get_or after'.parts.contexts d.0 blank (subst (λ n. d.0 < n) (sym sound.shape.contexts) within) in
       let e = ap (option_map (ahead_seen x.parts.memory)) (sym none) ∙ (h.ahead ∙ (ap (λ o. bind o (ahead_at q time' after')) (sym h.disp ∙ ap number_of is_d)
-          ∙ (ap (λ o. bind o (λ code. bind (slice_get after'.parts.contexts d.0) (λ c. Some (plain.ahead time' code q c after'.parts.memory)))) code_at
-          ∙ ap (λ o. bind o (λ c. Some (plain.ahead time' code q c after'.parts.memory))) context_at))) in
+      ∙ (ap (λ o. bind o (λ code. bind (slice_get after'.parts.contexts d.0) (λ c. Some (plain.ahead time' code q c after'.parts.memory)))) code_at
+      ∙ ap (λ o. bind o (λ c. Some (plain.ahead time' code q c after'.parts.memory))) context_at))) in
       none-some _ e
 
 -- a forward that says what the slice would do

@@ -1,5 +1,5 @@
 -- The end of a slice, from the end of its plain part.
-use Rattle.std.proofs.Common.{◌≡◌, ℕ, ◌<◌, List, Bool, true, false, Option, Some, None, refl, sym, ap, ◌∙◌, subst}
+use Rattle.std.proofs.Common.{◌≡◌, ℕ, ◌<◌, List, Bool, Option, Some, None, refl, sym, ap, ◌∙◌, subst}
 use Rattle.std.specs.Prelude.{max, IsTrue, is_some, ◌&&◌, slice_get, slice_set}
 use Rattle.std.proofs.lemmas.List.{length-set}
 use Rattle.std.proofs.lemmas.Option.{slice_get-get_or, slice_get_within}
@@ -15,9 +15,8 @@ use Rattle.dc_base.specs.declared.numbers.DispNo.{DispNo}
 use Rattle.dc_base.specs.Ahead.{AheadEnd, at_quantum, at_halt, at_trap, at_call}
 use Rattle.dc_base.specs.Ahead as plain
 use Rattle.dc_base.specs.ControlBlocks.{ControlBlock}
-use Rattle.dc_base.specs.Kernel.{Call, call_of}
+use Rattle.dc_base.specs.Kernel.{call_of}
 use Rattle.dc_base.specs.Serving.{need, serve, nothing_outside}
-use Rattle.dc_base.specs.Serving as seen
 use Rattle.dc_base.specs.Slices.{ready_last, with_state, stops, after_ahead, after_served, with_ahead, need_of, due_after, with_due, slice_end}
 use Rattle.dc_exec.specs.Calls.{call_name, end_at, is_proper_call}
 use Rattle.dc_sound.proofs.Elements.{set_here}

@@ -1,5 +1,5 @@
 -- The end of a slice, from what its call came to.
-use Rattle.std.proofs.Common.{◌≡◌, ℕ, ◌+◌, Option, Some, [], refl, sym, ap, ◌∙◌, subst}
+use Rattle.std.proofs.Common.{◌≡◌, ℕ, ◌+◌, Option, Some, [], ap, ◌∙◌, subst}
 use Rattle.std.specs.Prelude.{max, slice_get}
 use Rattle.std.proofs.lemmas.Option.{slice_get-get_or}
 use Rattle.dc_base.specs.declared.calls.End.{End}
@@ -12,7 +12,6 @@ use Rattle.dc_base.specs.declared.kernels.Version.{Version}
 use Rattle.dc_base.specs.ControlBlocks.{ControlBlock}
 use Rattle.dc_base.specs.Effects.{Context}
 use Rattle.dc_base.specs.Firing.{wake_if}
-use Rattle.dc_base.specs.Parts.{Parts}
 use Rattle.dc_base.specs.Serving.{Outside, Served, faulted, held_up, served}
 use Rattle.dc_base.specs.Slices.{Sliced, ready_last, with_state, due_after, with_due, after_served}
 use Rattle.dc_kernel.specs.declared.answers.Answer.{Answer}

@@ -4,7 +4,6 @@ use Rattle.std.specs.Option.{option_map}
 use Rattle.dc_base.specs.declared.calls.End.{End}
 use Rattle.dc_base.specs.declared.calls.End.TheVariants as end
 use Rattle.dc_base.specs.declared.calls.Need.{Need}
-use Rattle.dc_base.specs.declared.calls.Need.TheVariants as needs
 use Rattle.dc_base.specs.ControlBlocks.{ControlBlock}
 use Rattle.dc_base.specs.Firing.{Fired}
 use Rattle.dc_base.specs.Serving.{Outside, nothing_outside}

@@ -1,5 +1,5 @@
 -- The object outside a block that a call needs, as the program has it.
-use Rattle.std.specs.Prelude.{ℕ, ◌<◌, ◌-◌, ◌^◌, ⊤}
+use Rattle.std.specs.Prelude.{◌<◌, ◌-◌, ◌^◌, ⊤}
 use Rattle.dc_base.specs.declared.calls.Need.{Need}
 use Rattle.dc_base.specs.declared.calls.Need.TheVariants as needs
 use Rattle.dc_base.specs.Serving as seen

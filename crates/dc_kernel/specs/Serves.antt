@@ -1,5 +1,5 @@
 -- What a kernel call came to, as the program has it.
-use Rattle.std.specs.Prelude.{◌≡◌, ℕ, Bool, false, Some, slice_get, ⊤}
+use Rattle.std.specs.Prelude.{◌≡◌, ℕ, false, Some, slice_get, ⊤}
 use Rattle.dc_base.specs.declared.dispatchers.DispState.TheVariants as disp
 use Rattle.dc_base.specs.Words.{lists}
 use Rattle.dc_base.specs.Parts.{Parts}

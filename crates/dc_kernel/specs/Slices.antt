@@ -2,7 +2,6 @@
 use Rattle.std.specs.Prelude.{◌≤◌, ℕ, IfSome, ⊤}
 use Rattle.dc_base.specs.declared.calls.Need.{Need}
 use Rattle.dc_base.specs.ControlBlocks.{ControlBlock}
-use Rattle.dc_base.specs.Ahead as plain
 use Rattle.dc_base.specs.Serving as seen
 use Rattle.dc_base.specs.Slices as slice
 use Rattle.dc_exec.specs.declared.ends.Ahead.{Ahead}

@@ -214,7 +214,9 @@ impl<R: ReadyList, T: TimerQueue> Form<R, T> {
                 self.stand(d, DispState::Trapped(x));
                 stopped(d, fired, ahead.ran, End::Trap(x))
             }
-            AheadEnd::Call(instr) => self.serve(d, fired, ahead.ran, &instr, time, core, block, outside),
+            AheadEnd::Call(instr) => self.serve(
+                d, fired, ahead.ran, &instr, time, core, block, outside,
+            ),
         }
     }
 

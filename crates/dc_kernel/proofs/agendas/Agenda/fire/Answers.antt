@@ -7,8 +7,8 @@ use Rattle.dc_kernel.proofs.agendas.Agenda.fire.Goals as goal
 pub loop-t-init : goal.loop-t-init
 loop-t-init g c = record { named = c.requires.named; room = omega arith; size = refl; control = λ st. fired-none (fire_all c.args.time (control_of st c.args.self.now)) }
 
-pub latch-requires-clause-there : goal.latch-requires-clause-there
-latch-requires-clause-there g c = named-signal c.args.time c.loop-t.self c.take_due.new.self c.take_due.result c.take_due.ensures.which c.take_due.ensures.rest c.in-Some.t c.in-Some.is c.loop-t.invariant.named
+pub latch-requires : goal.latch-requires
+latch-requires g c = record { there = named-signal c.args.time c.loop-t.self c.take_due.new.self c.take_due.result c.take_due.ensures.which c.take_due.ensures.rest c.in-Some.t c.in-Some.is c.loop-t.invariant.named }
 
 pub loop-t-preserved : goal.loop-t-preserved
 loop-t-preserved g c =

@@ -4,7 +4,7 @@ use Rattle.dc_base.specs.ControlBlocks.{ControlBlock}
 use Rattle.dc_base.specs.Effects.{Context, reg}
 use Rattle.dc_base.specs.Words.{Each}
 use Rattle.dc_exec.specs.Steps.{context_of}
-use Rattle.dc_kernel.proofs.CallContexts.{running_within, running_places, disp_within, context_is}
+use Rattle.dc_kernel.proofs.CallContexts.{running_within, running_places, context_is}
 use Rattle.dc_kernel.proofs.CallResults.{ok_of, on_ok, on_err}
 use Rattle.dc_kernel.proofs.CallServed.{serves_faults, serves_makes, serves_refused}
 use Rattle.dc_kernel.proofs.CallSignals.{arm_fields, arm_faults, arm_full, arm_makes, agenda_kept, no_store, timer_made}

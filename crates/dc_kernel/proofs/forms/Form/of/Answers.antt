@@ -1,4 +1,4 @@
-use Rattle.std.proofs.Common.{◌≡◌, sym, subst}
+use Rattle.std.proofs.Common.{sym, subst}
 use Rattle.dc_kcb.specs.Wholes.{resting_of}
 use Rattle.dc_kernel.specs.Queued.{AreQueued}
 use Rattle.dc_kernel.proofs.ListedReady.{listed_at}

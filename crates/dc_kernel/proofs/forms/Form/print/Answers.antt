@@ -1,4 +1,4 @@
-use Rattle.std.proofs.Common.{◌≡◌, sym, ap, ◌∙◌, refl}
+use Rattle.std.proofs.Common.{sym, ap, ◌∙◌, refl}
 use Rattle.dc_base.specs.Effects.{Context, reg}
 use Rattle.dc_base.specs.Serving.{console_outside}
 use Rattle.dc_kernel.proofs.CallContexts.{running_within, context_is}

@@ -1,19 +1,14 @@
-use Rattle.std.proofs.Common.{◌≡◌, ℕ, ◌<◌, Some, refl, sym, ap, ◌∙◌, subst, length}
-use Rattle.std.specs.Prelude.{slice_get, IsTrue, max}
+use Rattle.std.proofs.Common.{◌≡◌, ◌<◌, sym, ap, ◌∙◌, subst, length}
+use Rattle.std.specs.Prelude.{slice_get, IsTrue}
 use Rattle.std.proofs.lemmas.Option.{slice_get_within}
-use Rattle.dc_base.specs.declared.calls.End.TheVariants as end
 use Rattle.dc_base.specs.declared.dispatchers.DispState.TheVariants as disp
 use Rattle.dc_base.specs.ControlBlocks.{ControlBlock}
 use Rattle.dc_base.specs.Kernel.{call_of}
 use Rattle.dc_base.specs.Serving.{need, serve}
 use Rattle.dc_base.specs.Slices.{ready_last, with_state, due_after, with_due, after_served, without_ready}
-use Rattle.dc_exec.specs.declared.ends.AheadEnd.{AheadEnd}
 use Rattle.dc_exec.specs.Calls.{end_at}
-use Rattle.dc_exec.specs.Changes.{with_changes}
 use Rattle.dc_exec.specs.Ends.{end_seen, is_proper_end}
 use Rattle.dc_exec.specs.Slices.{ahead_seen}
-use Rattle.dc_exec.specs.Steps.{context_of}
-use Rattle.dc_sound.proofs.Elements.{set_here}
 use Rattle.dc_kernel.specs.Outsides.{outside_seen}
 use Rattle.dc_kernel.specs.Slices.{after_plain, sliced_seen}
 use Rattle.dc_kernel.proofs.SliceParts.{length_changes}
@@ -56,5 +51,5 @@ returns-in-Call-clause-slice g c =
     call_end g.R.ReadyList.policy c.args.d c.args.fired c.args.time c.args.core.0 c.args.block.0 (without_ready c.args.d.0 c.args.self.now) a c.serve.new.self c.serve.result c.args.outside.now named.0 i c.serve.new.outside
     (ap end_seen c.in-Call.is ∙ ap (λ o. end_at o i) named.1)
     (subst (λ (y : ControlBlock). let call = call_of c.args.time c.args.d.0 a.context i y.parts in
-        sliced_seen c.serve.new.self c.serve.result (need call) (outside_seen c.serve.new.outside) ≡ with_due g.R.ReadyList.policy c.args.d.0 (after_served y c.args.d.0 c.args.ahead.now.ran named.0 (need call) out (serve c.args.core.0 c.args.block.0 call out)))
-     c.run_plain.ensures (c.serve.ensures.slice a.context named.0 there named.1))
+    sliced_seen c.serve.new.self c.serve.result (need call) (outside_seen c.serve.new.outside) ≡ with_due g.R.ReadyList.policy c.args.d.0 (after_served y c.args.d.0 c.args.ahead.now.ran named.0 (need call) out (serve c.args.core.0 c.args.block.0 call out)))
+    c.run_plain.ensures (c.serve.ensures.slice a.context named.0 there named.1))

@@ -1,5 +1,4 @@
-use Rattle.std.proofs.Common.{◌≡◌, ℕ, ◌<◌, ◌≤◌, ◌^◌, ◌-◌, Some, None, refl, sym, ap, ◌∙◌, subst, length}
-use Rattle.std.specs.Prelude.{slice_get}
+use Rattle.std.proofs.Common.{◌≡◌, ◌<◌, ◌^◌, ◌-◌, Some, None, sym, ap, ◌∙◌, subst}
 use Rattle.dc_base.specs.declared.calls.End.TheVariants as end
 use Rattle.dc_base.specs.ControlBlocks.{ControlBlock}
 use Rattle.dc_base.specs.Firing.{Fired, fire_all}
@@ -7,15 +6,14 @@ use Rattle.dc_base.specs.States.{time_on}
 use Rattle.dc_base.specs.Slices.{Sliced, need_of, slice_end}
 use Rattle.dc_base.specs.Words.{Each}
 use Rattle.dc_sound.specs.SoundControls.{IsSoundControl}
-use Rattle.dc_kernel.specs.Done.{Done, done_empty, done, told}
+use Rattle.dc_kernel.specs.Done.{done_empty, done, told}
 use Rattle.dc_kernel.specs.Forwards.{number_of, IsForward}
-use Rattle.dc_kernel.specs.Kernels.{IsKept}
 use Rattle.dc_kernel.specs.Outsides.{outside_seen, Fits}
 use Rattle.dc_kernel.specs.Running.{Running}
 use Rattle.dc_kernel.specs.Serves.{IsRunning}
 use Rattle.dc_kernel.specs.Slices.{after_plain, half_of, sliced_seen}
 use Rattle.dc_kernel.proofs.FiredParts.{fired_alike}
-use Rattle.dc_kernel.proofs.Going.{IsGoing, going, half, ran, running, need_is, done_going, nothing_needed, done_nothing, has_ahead, suits, nothing_fits}
+use Rattle.dc_kernel.proofs.Going.{going, half, ran, running, need_is, done_going, nothing_needed, done_nothing, has_ahead, suits, nothing_fits}
 use Rattle.dc_kernel.proofs.kernels.KernelDriver.slice.Goals as goal
 
 pub returns-in_default-clause-done : goal.returns-in_default-clause-done
@@ -119,7 +117,7 @@ invariant_of-self-2 g c =
     let go = going c.args.now q x o v c.in-Some.d c.in-Some-ahead.ahead c.args.forward.now h c.in-Some.is c.in-Some-ahead.is in
     let sound = c.self.invariant.sound in
     let slice = subst (λ y. sliced_seen c.run-sliced.new.self c.run-sliced.result (need_of (half_of (time_on c.args.now o) c.in-Some.d.0 y c.in-Some-ahead.ahead)) (outside_seen c.run-sliced.new.outside) ≡ slice_end c.args.core.0 c.args.block.0 v c.in-Some.d.0 (half_of (time_on c.args.now o) c.in-Some.d.0 y c.in-Some-ahead.ahead) (outside_seen c.args.outside)) ye
-        (subst (λ t. sliced_seen c.run-sliced.new.self c.run-sliced.result (need_of (half_of t c.in-Some.d.0 c.fire-fired.new.self c.in-Some-ahead.ahead)) (outside_seen c.run-sliced.new.outside) ≡ slice_end c.args.core.0 c.args.block.0 v c.in-Some.d.0 (half_of t c.in-Some.d.0 c.fire-fired.new.self c.in-Some-ahead.ahead) (outside_seen c.args.outside)) te c.run-sliced.ensures.slice) in
+    (subst (λ t. sliced_seen c.run-sliced.new.self c.run-sliced.result (need_of (half_of t c.in-Some.d.0 c.fire-fired.new.self c.in-Some-ahead.ahead)) (outside_seen c.run-sliced.new.outside) ≡ slice_end c.args.core.0 c.args.block.0 v c.in-Some.d.0 (half_of t c.in-Some.d.0 c.fire-fired.new.self c.in-Some-ahead.ahead) (outside_seen c.args.outside)) te c.run-sliced.ensures.slice) in
     let fits = suits (need_of (half_of (time_on c.args.now o) c.in-Some.d.0 (fire_all (time_on c.args.now o) x).control c.in-Some-ahead.ahead)) c.args.outside (subst (λ n. Fits n c.args.outside) (need_is c.args.now q x o v c.in-Some.d c.in-Some-ahead.ahead go c.args.forward.now h) c.requires.outside) c.offers_are_within.ensures in
     record {
       sound = subst IsSoundControl (sym (ap (λ (s : Sliced). s.control) slice)) (c.slices_keep_controls.ensures (time_on c.args.now o) q c.args.core.0 c.args.block.0 v c.in-Some.d.0 x (half_of (time_on c.args.now o) c.in-Some.d.0 (fire_all (time_on c.args.now o) x).control c.in-Some-ahead.ahead) (outside_seen c.args.outside) sound go.picked (half c.args.now q x o v c.in-Some.d c.in-Some-ahead.ahead go) fits);
@@ -138,7 +136,7 @@ returns-clause-done g c = λ q within forward.
     let h = subst (λ (r : Running). IsForward q c.args.now r c.args.forward.now) (sym c.self.view_is) forward in
     let go = going c.args.now q x o v c.in-Some.d c.in-Some-ahead.ahead c.args.forward.now h c.in-Some.is c.in-Some-ahead.is in
     let slice = subst (λ y. sliced_seen c.run-sliced.new.self c.run-sliced.result (need_of (half_of (time_on c.args.now o) c.in-Some.d.0 y c.in-Some-ahead.ahead)) (outside_seen c.run-sliced.new.outside) ≡ slice_end c.args.core.0 c.args.block.0 v c.in-Some.d.0 (half_of (time_on c.args.now o) c.in-Some.d.0 y c.in-Some-ahead.ahead) (outside_seen c.args.outside)) ye
-        (subst (λ t. sliced_seen c.run-sliced.new.self c.run-sliced.result (need_of (half_of t c.in-Some.d.0 c.fire-fired.new.self c.in-Some-ahead.ahead)) (outside_seen c.run-sliced.new.outside) ≡ slice_end c.args.core.0 c.args.block.0 v c.in-Some.d.0 (half_of t c.in-Some.d.0 c.fire-fired.new.self c.in-Some-ahead.ahead) (outside_seen c.args.outside)) te c.run-sliced.ensures.slice) in
+    (subst (λ t. sliced_seen c.run-sliced.new.self c.run-sliced.result (need_of (half_of t c.in-Some.d.0 c.fire-fired.new.self c.in-Some-ahead.ahead)) (outside_seen c.run-sliced.new.outside) ≡ slice_end c.args.core.0 c.args.block.0 v c.in-Some.d.0 (half_of t c.in-Some.d.0 c.fire-fired.new.self c.in-Some-ahead.ahead) (outside_seen c.args.outside)) te c.run-sliced.ensures.slice) in
     done_going c.args.now q x o v c.in-Some.d c.in-Some-ahead.ahead go c.args.core.0 c.args.block.0 c.args.outside c.run-sliced.new.outside c.run-sliced.new.self c.run-sliced.result slice c.run-sliced.ensures.disp (c.run-sliced.ensures.fired ∙ ap (λ (f : Fired). f.count) fe)
     ∙ ap (λ (r : Running). done (λ m. outside_seen c.args.outside) q c.args.core.0 c.args.block.0 c.args.now r) c.self.view_is
 
