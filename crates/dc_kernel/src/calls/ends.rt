@@ -94,7 +94,12 @@ fn frame_right(way: Way) -> u8
 }
 
 /// What the message goes between, with what the two slots hold.
-fn tested(way: Way, a: Option<Cap>, b: Option<Cap>, imm: u32) -> Result<Between, CapFault>
+pub(super) fn tested(
+    way: Way,
+    a: Option<Cap>,
+    b: Option<Cap>,
+    imm: u32,
+) -> Result<Between, CapFault>
     requires imm { imm < 2 ^ 16 }
     requires form { IfSome b IsCap }
     ensures call { (call : Call) → with_end_and_frame (is_end way) (end_right way) (frame_right way) imm a b call ≡ allowed result call }

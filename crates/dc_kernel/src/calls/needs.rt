@@ -43,7 +43,8 @@ impl<R: ReadyList, T: TimerQueue> Form<R, T> {
 }
 
 fn csend_need(a: Option<Cap>, b: Option<Cap>, imm: u32) -> Need
-    requires { imm < 2 ^ 16 }
+    requires imm { imm < 2 ^ 16 }
+    requires form { IfSome b IsCap }
     ensures { (m : Message) (p : Parts) → result ≡ need (with_end_and_frame is_send_end write_right read_right imm a b (sends (number_in a) m p)) }
 {
     match to_csend(a, b, imm) {
@@ -53,7 +54,8 @@ fn csend_need(a: Option<Cap>, b: Option<Cap>, imm: u32) -> Need
 }
 
 fn crecv_need(a: Option<Cap>, b: Option<Cap>, imm: u32) -> Need
-    requires { imm < 2 ^ 16 }
+    requires imm { imm < 2 ^ 16 }
+    requires form { IfSome b IsCap }
     ensures { (address : ℕ) (p : Parts) → result ≡ need (with_end_and_frame is_recv_end read_right write_right imm a b (receives (number_in a) address p)) }
 {
     match to_crecv(a, b, imm) {

@@ -9,16 +9,13 @@ ghost use Rattle.dc_base.specs.Parts.{Parts};
 ghost use Rattle.dc_caps.specs.Caps.{IsCap};
 ghost use Rattle.dc_kernel.specs.Tested.{bind_tested, give_tested, claim_tested, csend_tested, crecv_tested};
 
-use crate::calls::ends::{READ, WRITE, is_without};
+use crate::calls::ends::{READ, WRITE, Way, is_without, tested};
 use dc_base::capabilities::{Cap, CapKind};
 use dc_base::numbers::{ChanNo, LineNo, SignalNo};
 use dc_caps::CapFault;
 
 /// The right to give away.
 const GRANT: u8 = 4;
-
-/// How many words a message has.
-const WORDS: u32 = 4;
 
 /// A line that goes over a channel, with these rights.
 #[derive(Clone, Copy)]
@@ -88,40 +85,24 @@ pub(super) fn to_claim(a: Option<Cap>, used: bool) -> Result<ChanNo, CapFault>
 
 /// The channel that a message is sent to, from the words of a frame from `imm` on.
 pub(super) fn to_csend(a: Option<Cap>, b: Option<Cap>, imm: u32) -> Result<ChanNo, CapFault>
-    requires { imm < 2 ^ 16 }
+    requires imm { imm < 2 ^ 16 }
+    requires form { IfSome b IsCap }
     ensures { (m : Message) (p : Parts) → with_end_and_frame is_send_end write_right read_right imm a b (sends (number_in a) m p) ≡ csend_tested m p result }
 {
-    let (Some(a), Some(b)) = (a, b) else {
-        return Err(CapFault::EmptySlot);
-    };
-    let (CapKind::SendEnd(channel), CapKind::Frame { length, .. }) = (a.kind, b.kind) else {
-        return Err(CapFault::WrongKind);
-    };
-    if is_without(a, WRITE) || is_without(b, READ) {
-        return Err(CapFault::NoRight);
+    match tested(Way::Csend, a, b, imm) {
+        Ok(between) => Ok(ChanNo(between.end)),
+        Err(fault) => Err(fault),
     }
-    if length < imm + WORDS {
-        return Err(CapFault::OutOfRange);
-    }
-    Ok(channel)
 }
 
 /// The channel that a message is received from, into the words of a frame from `imm` on.
 pub(super) fn to_crecv(a: Option<Cap>, b: Option<Cap>, imm: u32) -> Result<ChanNo, CapFault>
-    requires { imm < 2 ^ 16 }
+    requires imm { imm < 2 ^ 16 }
+    requires form { IfSome b IsCap }
     ensures { (address : ℕ) (p : Parts) → with_end_and_frame is_recv_end read_right write_right imm a b (receives (number_in a) address p) ≡ crecv_tested address p result }
 {
-    let (Some(a), Some(b)) = (a, b) else {
-        return Err(CapFault::EmptySlot);
-    };
-    let (CapKind::RecvEnd(channel), CapKind::Frame { length, .. }) = (a.kind, b.kind) else {
-        return Err(CapFault::WrongKind);
-    };
-    if is_without(a, READ) || is_without(b, WRITE) {
-        return Err(CapFault::NoRight);
+    match tested(Way::Crecv, a, b, imm) {
+        Ok(between) => Ok(ChanNo(between.end)),
+        Err(fault) => Err(fault),
     }
-    if length < imm + WORDS {
-        return Err(CapFault::OutOfRange);
-    }
-    Ok(channel)
 }
