@@ -1,6 +1,6 @@
 -- What a message for a channel comes to, and one from it.
 use Rattle.std.proofs.Common.{◌≡◌, ℕ, ◌+◌, ◌<◌, List, ap, sym, refl, ◌∙◌}
-use Rattle.std.specs.Prelude.{Option, Some, None, Result, IsTrue, IsOk, IsErr, OnOk, OnErr}
+use Rattle.std.specs.Prelude.{Some, None, Result, IsTrue, IsOk, IsErr, OnOk, OnErr}
 use Rattle.dc_base.specs.declared.dispatchers.Wait.TheVariants as wait
 use Rattle.dc_base.specs.declared.instructions.Instr.TheVariants.{Csend, Crecv}
 use Rattle.dc_base.specs.declared.messages.Message.{Message}

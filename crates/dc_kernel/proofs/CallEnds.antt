@@ -3,7 +3,7 @@ use Rattle.std.proofs.Common.{◌≡◌, ℕ, suc, ◌<◌, Bool, true, false, c
 use Rattle.std.specs.Prelude.{Option, Some, None, ◌==◌, find, Result, Ok, Err, IfOk}
 use Rattle.std.specs.Option.{option_map}
 use Rattle.std.proofs.lemmas.Bool.{and_parts, ltb-true}
-use Rattle.std.proofs.lemmas.Option.{same_Some, none-some}
+use Rattle.std.proofs.lemmas.Option.{same_Some}
 use Rattle.dc_base.specs.declared.capabilities.Cap.{Cap}
 use Rattle.dc_base.specs.declared.capabilities.CapKind.{CapKind}
 use Rattle.dc_base.specs.Capabilities.{Seat, cap_at}

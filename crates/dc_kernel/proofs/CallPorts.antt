@@ -1,6 +1,6 @@
 -- What a message for a port comes to, and one from it.
-use Rattle.std.proofs.Common.{◌≡◌, ℕ, ◌+◌, ◌<◌, ◌≤◌, ◌↔◌, Bool, true, false, List, [], ◌∷◌, ◌++◌, length, ap, sym, refl, ◌∙◌, subst, arith}
-use Rattle.std.specs.Prelude.{Option, Some, None, Result, nat_lt, IsTrue, IsOk, IsErr, OnOk, OnErr, if◌then◌else◌, slice_get, slice_set}
+use Rattle.std.proofs.Common.{◌≡◌, ℕ, ◌+◌, ◌<◌, ◌≤◌, ◌↔◌, Bool, true, false, List, [], ◌∷◌, ◌++◌, length, ap, sym, ◌∙◌, arith}
+use Rattle.std.specs.Prelude.{Some, Result, nat_lt, IsTrue, IsOk, IsErr, OnOk, if◌then◌else◌, slice_get, slice_set}
 use Rattle.std.proofs.lemmas.Bool.{lt-ltb, le-ltb}
 use Rattle.dc_base.specs.declared.dispatchers.Wait.TheVariants as wait
 use Rattle.dc_base.specs.declared.instructions.Instr.TheVariants.{Send, Recv}

@@ -1,6 +1,6 @@
 -- What a word for the console comes to.
 use Rattle.std.proofs.Common.{◌≡◌, ℕ, ◌<◌, ◌≤◌, ◌↔◌, Bool, true, false, List, [], ◌∷◌, ◌++◌, length, ap, sym, refl, ◌∙◌, arith}
-use Rattle.std.specs.Prelude.{Option, None, Result, nat_lt, slice_index, IsTrue, IsOk, IsErr, OnOk, if◌then◌else◌}
+use Rattle.std.specs.Prelude.{None, Result, nat_lt, slice_index, IsTrue, IsOk, IsErr, OnOk, if◌then◌else◌}
 use Rattle.std.proofs.lemmas.Bool.{lt-ltb, le-ltb, ltb-true}
 use Rattle.dc_base.specs.declared.instructions.Instr.TheVariants.{Out, Yield}
 use Rattle.dc_base.specs.Effects.{Context}

@@ -1,6 +1,6 @@
 -- Results and what clauses say of them.
-use Rattle.std.proofs.Common.{◌≡◌, Bool, true, false, refl}
-use Rattle.std.specs.Prelude.{Result, Ok, Err, is_ok, is_err, IsOk, IsErr, OnOk, OnErr}
+use Rattle.std.proofs.Common.{◌≡◌, Bool, false, refl}
+use Rattle.std.specs.Prelude.{Result, Ok, Err, is_err, IsOk, IsErr, OnOk, OnErr}
 
 pub on_ok : {A E P : Type 0} (r : Result A E) → IsOk r → OnOk r P → P
 on_ok (Ok x) ok h = h

@@ -25,14 +25,14 @@ end_kind way.Recv n = kind.Port (record { 0 = n })
 end_kind way.Csend n = kind.SendEnd (record { 0 = n })
 end_kind way.Crecv n = kind.RecvEnd (record { 0 = n })
 
--- what it is called by is written to, and what it calls is read
+-- a send writes to its end, and a receive reads from it
 abbrev pub end_right : Way → ℕ
 end_right way.Send = write_right
 end_right way.Recv = read_right
 end_right way.Csend = write_right
 end_right way.Crecv = read_right
 
--- a message comes out of a frame or into it
+-- a send reads its frame, and a receive writes to it
 abbrev pub frame_right : Way → ℕ
 frame_right way.Send = read_right
 frame_right way.Recv = write_right

@@ -73,7 +73,7 @@ fn frame_range(kind: CapKind) -> Option<(u32, u32)>
     }
 }
 
-/// The right that the end needs.
+/// The right that the end needs: a send writes to it, and a receive reads from it.
 fn end_right(way: Way) -> u8
     ensures { result ≡ end_right way }
 {
@@ -83,7 +83,7 @@ fn end_right(way: Way) -> u8
     }
 }
 
-/// The right that the frame needs.
+/// The right that the frame needs: a send reads it, and a receive writes to it.
 fn frame_right(way: Way) -> u8
     ensures { result ≡ frame_right way }
 {

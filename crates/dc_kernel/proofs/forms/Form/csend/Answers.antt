@@ -1,4 +1,4 @@
-use Rattle.std.proofs.Common.{◌≡◌, sym, ap, ◌∙◌, refl}
+use Rattle.std.proofs.Common.{sym, ap, ◌∙◌, refl}
 use Rattle.dc_base.specs.ControlBlocks.{ControlBlock}
 use Rattle.dc_base.specs.Parts.{words_at}
 use Rattle.dc_base.specs.Serving.{channel_outside}

@@ -1,4 +1,4 @@
-use Rattle.std.proofs.Common.{◌≡◌, sym, ap, ◌∙◌, refl, arith}
+use Rattle.std.proofs.Common.{◌∙◌, arith}
 use Rattle.dc_kernel.proofs.CallContexts.{running_within, place_within, running_places}
 use Rattle.dc_kernel.proofs.CallServed.{serves_faults, serves_waits, serves_takes}
 use Rattle.dc_kernel.proofs.CallSignals.{wait_fields, wait_faults, wait_is, latch_waits, latch_takes, latch_of_block, none_taken, still_within, still_there, latch_taken}
