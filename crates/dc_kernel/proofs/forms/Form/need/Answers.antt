@@ -21,9 +21,9 @@ pub look-requires-in-Csend-clause-slot : goal.look-requires-in-Csend-clause-slot
 unfolding is_proper call_name
 look-requires-in-Csend-clause-slot g c = (slots_in c.args.instr.now (Csend c.in-Csend.a c.in-Csend.b c.in-Csend.imm) c.in-Csend.a c.in-Csend.b c.in-Csend.imm c.in-Csend.is refl c.requires.proper).1.0
 
-pub csend_need-requires : goal.csend_need-requires
+pub csend_need-requires-clause-imm : goal.csend_need-requires-clause-imm
 unfolding is_proper call_name
-csend_need-requires g c = (slots_in c.args.instr.now (Csend c.in-Csend.a c.in-Csend.b c.in-Csend.imm) c.in-Csend.a c.in-Csend.b c.in-Csend.imm c.in-Csend.is refl c.requires.proper).1.1
+csend_need-requires-clause-imm g c = (slots_in c.args.instr.now (Csend c.in-Csend.a c.in-Csend.b c.in-Csend.imm) c.in-Csend.a c.in-Csend.b c.in-Csend.imm c.in-Csend.is refl c.requires.proper).1.1
 
 pub look-requires-in-Crecv-clause-slot : goal.look-requires-in-Crecv-clause-slot
 unfolding is_proper call_name
@@ -33,9 +33,9 @@ pub look-requires-in-Crecv-2-clause-slot : goal.look-requires-in-Crecv-2-clause-
 unfolding is_proper call_name
 look-requires-in-Crecv-2-clause-slot g c = (slots_in c.args.instr.now (Crecv c.in-Crecv.a c.in-Crecv.b c.in-Crecv.imm) c.in-Crecv.a c.in-Crecv.b c.in-Crecv.imm c.in-Crecv.is refl c.requires.proper).1.0
 
-pub crecv_need-requires : goal.crecv_need-requires
+pub crecv_need-requires-clause-imm : goal.crecv_need-requires-clause-imm
 unfolding is_proper call_name
-crecv_need-requires g c = (slots_in c.args.instr.now (Crecv c.in-Crecv.a c.in-Crecv.b c.in-Crecv.imm) c.in-Crecv.a c.in-Crecv.b c.in-Crecv.imm c.in-Crecv.is refl c.requires.proper).1.1
+crecv_need-requires-clause-imm g c = (slots_in c.args.instr.now (Crecv c.in-Crecv.a c.in-Crecv.b c.in-Crecv.imm) c.in-Crecv.a c.in-Crecv.b c.in-Crecv.imm c.in-Crecv.is refl c.requires.proper).1.1
 
 pub look-requires-in-Bind-clause-slot : goal.look-requires-in-Bind-clause-slot
 unfolding is_proper call_name
