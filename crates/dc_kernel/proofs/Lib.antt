@@ -21,4 +21,5 @@ pub mod RunEnds
 pub mod ServeEnds
 pub mod SliceLooks
 pub mod SliceParts
+pub mod SliceTurns
 pub mod WokenLists

@@ -7,6 +7,7 @@ pub mod Outsides
 pub mod Queued
 pub mod Running
 pub mod Serves
+pub mod Sides
 pub mod Slices
 pub mod Tested
 pub mod Turned

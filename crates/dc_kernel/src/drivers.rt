@@ -1,30 +1,39 @@
 //! What a kernel is.
 
-ghost use Rattle.std.specs.Prelude.{◌≡◌, ℕ, ◌-◌, ◌^◌, ◌<◌, Bool, true, Some, length, slice_get, ℤ, pos, ◌-ℤ◌};
-ghost use Rattle.std.specs.Option.{option_map};
+ghost use Rattle.std.specs.Prelude.{◌≡◌, ℕ, ◌-◌, ◌^◌, ◌<◌, Bool, true, Some, IfSome, length, slice_get, ℤ, pos, ◌-ℤ◌};
+ghost use Rattle.std.specs.Option.{option_map, option_copied};
 ghost use Rattle.dc_base.specs.declared.dispatchers.DispState.TheVariants as disp;
 ghost use Rattle.dc_base.specs.declared.dispatchers.Wait.{Wait};
 ghost use Rattle.dc_base.specs.declared.interrupts.Timer.{Timer as Armed};
 ghost use Rattle.dc_base.specs.declared.kernels.Version.{Version as Policy};
+ghost use Rattle.dc_base.specs.declared.numbers.SlotNo.{SlotNo as Slot};
 ghost use Rattle.dc_base.specs.Words.{Each};
+ghost use Rattle.dc_base.specs.Capabilities.{cap_at, parent_at};
 ghost use Rattle.dc_base.specs.Firing.{latch_in};
 ghost use Rattle.dc_base.specs.Named.{waits_on_channel};
 ghost use Rattle.dc_base.specs.Ports.{latch_at, how_latched};
 ghost use Rattle.dc_base.specs.Steps.{can_run};
-ghost use Rattle.dc_base.specs.Timers.{soonest};
+ghost use Rattle.dc_base.specs.Timers.{soonest, in_order};
 ghost use Rattle.dc_base.specs.Wakes.{ready_again};
+ghost use Rattle.dc_caps.specs.Caps.{IsCap};
+ghost use Rattle.dc_ready.specs.Entries.{dispatchers, entries_of, AreDues, IsReadyList};
+ghost use Rattle.dc_kcb.specs.Readings.{disp_at};
 ghost use Rattle.dc_kernel.specs.Running.{Running, on_core, time_in, IsTimely, adopted, surrendered};
 ghost use Rattle.dc_kernel.specs.Outsides.{outside_seen, HasRoom, Fits};
 ghost use Rattle.dc_kernel.specs.Forwards.{IsQuantum, IsForward, IsSomeForward};
 ghost use Rattle.dc_kernel.specs.Done.{done, told};
 
 use crate::outsides::Outside;
+use arrayvec::ArrayVec;
 use dc_base::calls::{End, Need};
-use dc_base::interrupts::{Latch, Latched};
+use dc_base::capabilities::Cap;
+use dc_base::interrupts::{Latch, Latched, Timer};
 use dc_base::kernels::Version;
-use dc_base::numbers::{BlockNo, CoreNo, DispNo, SignalNo};
+use dc_base::numbers::{BlockNo, CoreNo, DispNo, PortNo, SignalNo, SlotNo};
 use dc_exec::Ahead;
+use dc_isa::Dispatcher;
 use dc_kcb::Kcb;
+use dc_ports::Port;
 
 /// What a slice would do up to its call: the dispatcher that would run, the plain part of the slice, and the object outside the block that its call needs.
 #[derive(Drop)]
@@ -118,4 +127,55 @@ pub trait Driver: Drop + Send + Sync {
     fn wake(&mut self, d: DispNo)
         requires { option_map waits_on_channel (slice_get (held self.old).control.states d.0) ≡ Some true }
         ensures { held self.new ≡ record (held self.old) { control = ready_again d.0 (held self.old).control } };
+
+    /// Dispatcher `d`. None where there is none of this number.
+    fn disp(&self, d: DispNo) -> Option<Dispatcher>
+        ensures { result ≡ disp_at (held self.now).control d.0 };
+
+    /// How many dispatchers there are.
+    fn disps(&self) -> u32
+        ensures { result ≡ length (held self.now).control.states };
+
+    /// The ready dispatchers in order of arrival, each with its due.
+    fn ready(&self) -> ArrayVec<(DispNo, u64), 16>
+        ensures order { dispatchers (entries_of result.items) ≡ (held self.now).control.ready }
+        ensures dues { AreDues (held self.now).control.dues (entries_of result.items) }
+        ensures once { IsReadyList (entries_of result.items) };
+
+    /// The armed timers by (deadline, number).
+    fn timers(&self) -> ArrayVec<Timer, 64>
+        ensures { result.items ≡ in_order (held self.now).control.parts.timers };
+
+    /// The number of the timer that is armed next.
+    fn next_timer(&self) -> u32
+        ensures { result ≡ (held self.now).control.parts.next_timer };
+
+    /// What the slot of this number holds.
+    fn cap(&self, s: SlotNo) -> Option<Cap>
+        ensures value { result ≡ cap_at (held self.now).control.parts.caps s.0 }
+        ensures form { IfSome result IsCap };
+
+    /// The parent of the slot of this number; None for a root, and for an empty slot.
+    fn parent(&self, s: SlotNo) -> Option<SlotNo>
+        ensures { option_map (λ (p : Slot). p.0) result ≡ parent_at (held self.now).control.parts.caps s.0 };
+
+    /// The port of this number.
+    fn port(&self, p: PortNo) -> Option<&Port>
+        ensures { option_copied result ≡ slice_get (held self.now).control.parts.ports p.0 };
+
+    /// How many ports there are.
+    fn ports(&self) -> u32
+        ensures { result ≡ length (held self.now).control.parts.ports };
+
+    /// What the signal of this number holds. None where it holds no latch, and where there is none of this number.
+    fn signal(&self, s: SignalNo) -> Option<Latch>
+        ensures { result ≡ latch_at (held self.now).control.parts.signals s.0 };
+
+    /// How many signals there are.
+    fn signals(&self) -> u32
+        ensures { result ≡ length (held self.now).control.parts.signals };
+
+    /// The word at an address. None past the memory.
+    fn word(&self, address: u32) -> Option<u32>
+        ensures { result ≡ slice_get (held self.now).control.parts.memory address };
 }

@@ -7,11 +7,15 @@ ghost use Rattle.dc_kernel.specs.Slices.{OffersWithin};
 use crate::drivers::{Driver, Forward, Sliced};
 use crate::forms::Form;
 use crate::outsides::Outside;
+use arrayvec::ArrayVec;
 use dc_base::calls::{End, Need};
-use dc_base::interrupts::{Latch, Latched};
+use dc_base::capabilities::Cap;
+use dc_base::interrupts::{Latch, Latched, Timer};
 use dc_base::kernels::Version;
-use dc_base::numbers::{BlockNo, CoreNo, DispNo, SignalNo};
+use dc_base::numbers::{BlockNo, CoreNo, DispNo, PortNo, SignalNo, SlotNo};
+use dc_isa::Dispatcher;
 use dc_kcb::Kcb;
+use dc_ports::Port;
 use dc_ready::ReadyList;
 use dc_sound::{
     aheads_keep_controls, firing_keeps_controls, latching_keeps_controls, picked_is_ready,
@@ -161,5 +165,53 @@ impl<R: ReadyList + Send + Sync, T: TimerQueue + Send + Sync> Driver for Kernel<
     fn wake(&mut self, d: DispNo) {
         waking_keeps_controls();
         self.form.wake_one(d);
+    }
+
+    fn disp(&self, d: DispNo) -> Option<Dispatcher> {
+        self.form.disp(d)
+    }
+
+    fn disps(&self) -> u32 {
+        self.form.disps()
+    }
+
+    fn ready(&self) -> ArrayVec<(DispNo, u64), 16> {
+        self.form.ready()
+    }
+
+    fn timers(&self) -> ArrayVec<Timer, 64> {
+        self.form.timers()
+    }
+
+    fn next_timer(&self) -> u32 {
+        self.form.next_timer()
+    }
+
+    fn cap(&self, s: SlotNo) -> Option<Cap> {
+        self.form.cap(s)
+    }
+
+    fn parent(&self, s: SlotNo) -> Option<SlotNo> {
+        self.form.parent(s)
+    }
+
+    fn port(&self, p: PortNo) -> Option<&Port> {
+        self.form.port(p)
+    }
+
+    fn ports(&self) -> u32 {
+        self.form.ports()
+    }
+
+    fn signal(&self, s: SignalNo) -> Option<Latch> {
+        self.form.latch_at(s)
+    }
+
+    fn signals(&self) -> u32 {
+        self.form.signals()
+    }
+
+    fn word(&self, address: u32) -> Option<u32> {
+        self.form.word(address)
     }
 }

@@ -3,15 +3,20 @@
 
 mod agendas;
 mod answers;
+mod both;
 mod calls;
 mod drivers;
 mod forms;
 mod handovers;
 mod kernels;
+mod laws;
 mod outsides;
+mod readers;
 mod serving;
 mod slices;
 
+pub use both::Both;
 pub use drivers::{Driver, Forward, Sliced};
 pub use kernels::Kernel;
+pub use laws::{adopt_and_surrender, slice_is_done};
 pub use outsides::Outside;
