@@ -3,10 +3,14 @@
 
 ghost use Rattle.std.specs.Prelude.{◌≡◌, ◌≤◌, IfOk};
 ghost use Rattle.dc_base.specs.Generated as spec;
+ghost use Rattle.dc_base.specs.States.{settings_of};
+ghost use Rattle.dc_base.specs.Valid.{IsValid, IsValidScript, IsValidSchedule};
 
 mod images;
 mod schedules;
 mod scripts;
+#[cfg(test)]
+mod tests;
 
 use dc_base::images::Image;
 use dc_base::memory::Memory;
@@ -23,6 +27,9 @@ pub fn generate(alloc: Global, n: u32) -> Result<(Image, Script, Schedule), Memo
     ensures image { IfOk result (λ input. input.0 ≡ spec.generated_image) }
     ensures script { IfOk result (λ input. input.1 ≡ spec.generated_script) }
     ensures schedule { IfOk result (λ input. input.2 ≡ spec.generated_schedule n) }
+    ensures valid_image { IfOk result (λ input. IsValid input.0) }
+    ensures valid_script { IfOk result (λ input. IsValidScript (settings_of input.0) input.1) }
+    ensures valid_schedule { IfOk result (λ input. IsValidSchedule (settings_of input.0) input.2) }
 {
     Ok((
         generate_image(alloc)?,
