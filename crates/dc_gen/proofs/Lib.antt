@@ -1,0 +1,7 @@
+mod Numbers
+mod Ranges
+mod ScheduleValid
+mod ScriptValid
+mod ImageParts
+mod ImageValid
+mod InputValid
