@@ -27,7 +27,6 @@ impl<R: ReadyList, T: TimerQueue> Form<R, T> {
         ensures { result ≡ disp_at self.now d.0 }
     {
         dispatchers_are_read();
-        let _ = &self.table;
         disp_in(&self.agenda.disps, d)
     }
 
@@ -35,7 +34,6 @@ impl<R: ReadyList, T: TimerQueue> Form<R, T> {
     pub(crate) fn disps(&self) -> u32
         ensures { result ≡ length self.now.states }
     {
-        let _ = &self.table;
         self.agenda.disps.len() as u32
     }
 
@@ -45,7 +43,6 @@ impl<R: ReadyList, T: TimerQueue> Form<R, T> {
         ensures dues { AreDues self.now.dues (entries_of result.items) }
         ensures once { IsReadyList (entries_of result.items) }
     {
-        let _ = &self.table;
         self.agenda.ready.to_list()
     }
 
@@ -53,7 +50,6 @@ impl<R: ReadyList, T: TimerQueue> Form<R, T> {
     pub(crate) fn timers(&self) -> ArrayVec<Timer, 64>
         ensures { result.items ≡ in_order self.now.parts.timers }
     {
-        let _ = &self.table;
         self.agenda.timers.to_list()
     }
 
@@ -61,7 +57,6 @@ impl<R: ReadyList, T: TimerQueue> Form<R, T> {
     pub(crate) fn next_timer(&self) -> u32
         ensures { result ≡ self.now.parts.next_timer }
     {
-        let _ = &self.table;
         self.agenda.timers.next()
     }
 
@@ -70,7 +65,6 @@ impl<R: ReadyList, T: TimerQueue> Form<R, T> {
         ensures value { result ≡ cap_at self.now.parts.caps s.0 }
         ensures form { IfSome result IsCap }
     {
-        let _ = &self.agenda;
         cap_in(&self.table, s)
     }
 
@@ -78,7 +72,6 @@ impl<R: ReadyList, T: TimerQueue> Form<R, T> {
     pub(crate) fn parent(&self, s: SlotNo) -> Option<SlotNo>
         ensures { option_map (λ (p : Slot). p.0) result ≡ parent_at self.now.parts.caps s.0 }
     {
-        let _ = &self.agenda;
         parent_in(&self.table, s)
     }
 
@@ -86,7 +79,6 @@ impl<R: ReadyList, T: TimerQueue> Form<R, T> {
     pub(crate) fn port(&self, p: PortNo) -> Option<&Port>
         ensures { option_copied result ≡ slice_get self.now.parts.ports p.0 }
     {
-        let _ = &self.agenda;
         port_in(&self.ports, p)
     }
 
@@ -94,7 +86,6 @@ impl<R: ReadyList, T: TimerQueue> Form<R, T> {
     pub(crate) fn ports(&self) -> u32
         ensures { result ≡ length self.now.parts.ports }
     {
-        let _ = &self.agenda;
         self.ports.len() as u32
     }
 
@@ -102,7 +93,6 @@ impl<R: ReadyList, T: TimerQueue> Form<R, T> {
     pub(crate) fn latch_at(&self, s: SignalNo) -> Option<Latch>
         ensures { result ≡ latch_at self.now.parts.signals s.0 }
     {
-        let _ = &self.table;
         latch_in(&self.agenda.signals, s)
     }
 
@@ -110,7 +100,6 @@ impl<R: ReadyList, T: TimerQueue> Form<R, T> {
     pub(crate) fn signals(&self) -> u32
         ensures { result ≡ length self.now.parts.signals }
     {
-        let _ = &self.table;
         self.agenda.signals.len() as u32
     }
 
@@ -118,7 +107,6 @@ impl<R: ReadyList, T: TimerQueue> Form<R, T> {
     pub(crate) fn word(&self, address: u32) -> Option<u32>
         ensures { result ≡ slice_get self.now.parts.memory address }
     {
-        let _ = &self.agenda;
         self.memory.get(address as usize).copied()
     }
 }
