@@ -1,0 +1,29 @@
+-- What the benches test at run time, as the kernels ask for it.
+use Rattle.std.proofs.Common.{◌≡◌, ℕ, zero, suc, ◌+◌, ◌-◌, ◌<◌, ◌≤◌, ◌^◌, List, [], ◌∷◌, Bool, true, Some, refl, sym, ap, ◌∙◌, subst, arith, map}
+use Rattle.std.specs.Prelude.{slice_get, nat_lt, ◌&&◌, ℤ, pos, ◌+ℤ◌, ◌-ℤ◌, ◌≤ℤ◌}
+use Rattle.std.specs.List.{list_all}
+use Rattle.std.proofs.lemmas.Bool.{and_parts, ltb-true}
+use Rattle.std.proofs.lemmas.Int.{ints}
+use Rattle.dc_base.specs.declared.images.Image.{Image}
+use Rattle.dc_base.specs.declared.images.BlockImage.{BlockImage}
+use Rattle.dc_base.specs.Words.{Each, above_zero}
+use Rattle.dc_base.specs.Valid.{IsValid}
+use Rattle.dc_isa.specs.declared.dispatchers.Dispatcher.{Dispatcher}
+use Rattle.dc_kcb.specs.Controls.{due_of}
+use Rattle.dc_kcb.specs.Starts.{BootsIn}
+use Rattle.dc_kernel.specs.Running.{Running, IsTimely}
+
+pub first_boots : (i : Image) (x : BlockImage) → IsValid i → slice_get i.blocks 0 ≡ Some x → BootsIn x
+first_boots i x valid q = (i, 0, valid.blocks 0 x q)
+
+pub all_low : (disps : List Dispatcher) → list_all (λ (d : Dispatcher). nat_lt d.due 4611686018427387904) disps ≡ true → Each (map due_of disps) (λ i due. due < 2 ^ 63)
+all_low [] h i x q = absurd cc
+all_low (d ∷ ds) h zero x q = let parts = and_parts (nat_lt d.due 4611686018427387904) (list_all (λ (e : Dispatcher). nat_lt e.due 4611686018427387904) ds) h in let same : d.due ≡ x = cc in let low = ltb-true d.due 4611686018427387904 parts.0 in omega (arith, same, low)
+all_low (d ∷ ds) h (suc i) x q = let parts = and_parts (nat_lt d.due 4611686018427387904) (list_all (λ (e : Dispatcher). nat_lt e.due 4611686018427387904) ds) h in all_low ds parts.1 i x q
+
+pub timely : (r : Running) (kept now clock : ℕ) → r.offset ≡ pos kept -ℤ pos now → kept < 4611686018427387904 → clock < 4611686018427387904 → now ≤ clock → IsTimely clock r
+timely r kept now clock e k a l =
+    let f : pos clock +ℤ (pos kept -ℤ pos now) ≡ pos (kept + (clock - now)) = omega (arith, ints, l) in
+    let g : pos clock +ℤ r.offset ≡ pos (kept + (clock - now)) = ap (λ z. pos clock +ℤ z) e ∙ f in
+    let t : above_zero (pos clock +ℤ r.offset) ≡ kept + (clock - now) = ap above_zero g in
+    record { clock = omega (arith, a); from_zero = subst (λ z. pos 0 ≤ℤ z) (sym g) (omega (arith, ints)); time = omega (arith, t, k, a) }
