@@ -5,6 +5,7 @@ ghost use Rattle.std.specs.List.{range_with_len};
 ghost use Rattle.dc_base.specs.Generated as spec;
 ghost use Rattle.dc_gen.specs.Images.{caps_of, disp_of};
 
+use crate::codes::code_of;
 use dc_base::capabilities::{Cap, CapKind};
 use dc_base::images::{BlockImage, CapImage, ChanImage, CoreImage, DispImage, Image};
 use dc_base::kernels::{Clocks, Version};
@@ -18,80 +19,6 @@ const CORES: u32 = 8;
 
 /// How many blocks the image has, and as many channels.
 const BLOCKS: u32 = 16;
-
-/// `csend s0 s2 0`: what the frame has goes to the next block.
-const SEND: u32 = 0x24020000;
-
-/// `crecv s1 s2 0`: what the block before sent comes into the frame.
-const RECEIVE: u32 = 0x25120000;
-
-/// `ld r0 r2 0`: the first word of the frame.
-const LOAD: u32 = 0x10020000;
-
-/// `add r0 r1`: that word and the block's own number.
-const ADD: u32 = 0x04010000;
-
-/// `st r0 r2 0`: the sum stands in the frame.
-const STORE: u32 = 0x11020000;
-
-/// `out r0`: the sum is put out.
-const OUT: u32 = 0x20000000;
-
-/// `li r1 imm`, with the block's own number.
-fn load_own(own: u32) -> u32
-    requires { own < 65536 }
-    ensures { result ≡ 0x01100000 + own }
-{
-    0x01100000 + own
-}
-
-/// `jmp place`.
-fn jump(place: u32) -> u32
-    requires { place < 65536 }
-    ensures { result ≡ 0x0F000000 + place }
-{
-    0x0F000000 + place
-}
-
-/// The code of the first block, which sends twice before it adds and passes on.
-fn first_code(alloc: Global) -> Result<Items<u32>, Memory>
-    ensures { IfOk result (λ code. code ≡ spec.code_of 0) }
-{
-    let words = [
-        load_own(1),
-        SEND,
-        SEND,
-        RECEIVE,
-        LOAD,
-        ADD,
-        STORE,
-        OUT,
-        SEND,
-        jump(3),
-    ];
-    Ok(Items::from_vec(words.to_vec(alloc)?))
-}
-
-/// The code of each other block, which adds its own number and passes on.
-fn further_code(alloc: Global, own: u32) -> Result<Items<u32>, Memory>
-    requires { own < 65536 }
-    ensures { IfOk result (λ code. code ≡ (0x01100000 + own) ∷ spec.adding_code 1) }
-{
-    let words = [load_own(own), RECEIVE, LOAD, ADD, STORE, OUT, SEND, jump(1)];
-    Ok(Items::from_vec(words.to_vec(alloc)?))
-}
-
-/// The code of a block.
-fn code_of(alloc: Global, block: u32) -> Result<Items<u32>, Memory>
-    requires { block < 16 }
-    ensures { IfOk result (λ code. code ≡ spec.code_of block) }
-{
-    if block == 0 {
-        first_code(alloc)
-    } else {
-        further_code(alloc, block + 1)
-    }
-}
 
 /// A capability with all rights.
 fn cap_of(slot: u32, kind: CapKind) -> CapImage

@@ -6,6 +6,7 @@ ghost use Rattle.dc_base.specs.Generated as spec;
 ghost use Rattle.dc_base.specs.States.{settings_of};
 ghost use Rattle.dc_base.specs.Valid.{IsValid, IsValidScript, IsValidSchedule};
 
+mod codes;
 mod images;
 mod schedules;
 mod scripts;

@@ -1,3 +1,5 @@
+//! What no clause says: the first lines, the counts and the ends, from outside.
+
 use crate::generate;
 use dc_base::actions::{Action, Actor};
 use dc_base::capabilities::{Cap, CapKind};
