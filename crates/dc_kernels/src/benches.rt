@@ -8,7 +8,8 @@ ghost use Rattle.dc_kernel.specs.Forwards.{IsSomeForward};
 
 use dc_base::calls::Need;
 use dc_base::kernels::Version;
-use dc_base::numbers::{BlockNo, CoreNo};
+use dc_base::messages::Message;
+use dc_base::numbers::{BlockNo, ChanNo, CoreNo};
 use dc_channel::{Channel, Console};
 use dc_isa::Dispatcher;
 use dc_kcb::Kcb;
@@ -21,7 +22,7 @@ use std::test::Fail;
 // No clock, time or due of a test is later.
 const LATE: u64 = 4_611_686_018_427_387_904;
 
-/// What is outside the block: its console, the channel from it, the channel to it, and line 0.
+/// What is outside the block: its console, the channel from it, the channel to it, which holds one message, and line 0, which is offered over the channel to it.
 #[derive(Drop)]
 pub(crate) struct World {
     pub(crate) console: Console,
@@ -32,11 +33,15 @@ pub(crate) struct World {
 
 impl World {
     pub(crate) fn new(alloc: Global) -> Result<World, Fail> {
+        let mut line = Line::idle();
+        line.give(ChanNo(1), 5);
+        let mut here = Channel::new(alloc, 2)?;
+        let _ = here.push(Message([1, 2, 3, 4]));
         Ok(World {
             console: Console::new(alloc)?,
             away: Channel::new(alloc, 2)?,
-            here: Channel::new(alloc, 2)?,
-            line: Line::idle(),
+            here,
+            line,
         })
     }
 }

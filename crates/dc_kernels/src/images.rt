@@ -69,8 +69,9 @@ fn image<R: Abort>(rt: &R, alloc: Global, disps: &[(&str, &str)]) -> Result<Imag
     ensures { IfOk result IsValid }
 {
     let text = text(alloc, disps)?;
-    let Ok(image) = read_image(alloc, text.as_slice()) else {
-        panic!(rt; "the image is refused")
+    let image = match read_image(alloc, text.as_slice()) {
+        Ok(image) => image,
+        Err(fault) => panic!(rt; "the image is refused: {fault:?}"),
     };
     Ok(image)
 }
