@@ -1,0 +1,44 @@
+-- What a core does next.
+use Rattle.std.specs.Prelude.{◌≡◌, ℕ, ◌==◌, List, Option, Some, None, find, if◌then◌else◌}
+use Rattle.dc_base.specs.declared.entries.Reason.TheVariants as reason
+use Rattle.dc_base.specs.declared.entries.What.{What}
+use Rattle.dc_base.specs.declared.entries.What.TheVariants as what
+use Rattle.dc_base.specs.declared.kernels.Version.{Version}
+use Rattle.dc_base.specs.declared.numbers.BlockNo.{BlockNo}
+use Rattle.dc_base.specs.declared.numbers.DispNo.{DispNo}
+use Rattle.dc_base.specs.States.{Core, Block}
+use Rattle.dc_base.specs.Steps.{is_runnable, next_due}
+use Rattle.dc_base.specs.Turns.{Looked}
+use Rattle.dc_kernel.specs.declared.drivers.Sliced.{Sliced}
+use Rattle.dc_kernel.specs.Forwards.{IsForward}
+use Rattle.dc_objects.specs.Blocks.{running_of}
+use Rattle.dc_machine.specs.declared.steps.Next.{Next}
+use Rattle.dc_machine.specs.declared.steps.Next.TheVariants as next
+use Rattle.dc_machine.specs.declared.turns.Stepped.{Stepped}
+use Rattle.dc_machine.specs.declared.turns.Stepped.TheVariants as stepped
+
+abbrev pub stopped_at : Option Version → Option Stepped
+stopped_at None = Some (stepped.NotEnabled reason.CoreOff)
+stopped_at (Some v) = None
+
+-- why the core does nothing at all: its budget is used, or it is off
+abbrev pub stopped : Core → Option Stepped
+stopped k = if k.used == k.settings.slices then Some stepped.Spent else stopped_at k.version
+
+-- the first block that can run
+abbrev pub first_runnable : Core → List Looked → Option Looked
+first_runnable k share = find (is_runnable k.clock) share
+
+-- a slice of the first block that can run, or idle until the first timer is due, or nothing
+abbrev pub IsNext : Core → List Looked → Next → Type 0
+IsNext k share next.Nothing = (first_runnable k share ≡ None) × (next_due share ≡ None)
+IsNext k share (next.Idle clock) = (first_runnable k share ≡ None) × (next_due share ≡ Some clock)
+IsNext k share (next.Slice b f) = (x : Block) × (first_runnable k share ≡ Some (record { number = b.0; found = Some x })) × IsForward k.settings.quantum k.clock (running_of x) f
+
+abbrev pub what_by : BlockNo → Sliced → ℕ → Option DispNo → What
+what_by b s clock None = what.SliceNone b s.fired clock
+what_by b s clock (Some d) = what.Slice b d s.fired s.ran s.end clock
+
+-- what the entry of a slice says
+abbrev pub slice_what : BlockNo → Sliced → ℕ → What
+slice_what b s clock = what_by b s clock s.disp

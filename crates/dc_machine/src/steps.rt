@@ -1,0 +1,187 @@
+//! Step: a slice of the first runnable block, or idle until the first timer is due.
+
+ghost use Rattle.std.specs.Prelude.{◌≡◌, ℕ, ◌<◌, Some, true, slice_get, length};
+ghost use Rattle.std.specs.Option.{option_map};
+ghost use Rattle.dc_base.specs.declared.actions.Actor.TheVariants as actor;
+ghost use Rattle.dc_base.specs.declared.actions.Action.TheVariants as action;
+ghost use Rattle.dc_base.specs.declared.numbers.BlockNo.{BlockNo as Number};
+ghost use Rattle.dc_base.specs.Cores.{core_step};
+ghost use Rattle.dc_base.specs.Outcomes.{has};
+ghost use Rattle.dc_base.specs.Sound.{IsSound};
+ghost use Rattle.dc_base.specs.States.{Core, Block};
+ghost use Rattle.dc_base.specs.Steps.{next_due, idle_outcome, slice_turn};
+ghost use Rattle.dc_base.specs.Turns.{Looked, outcome};
+ghost use Rattle.dc_kernel.specs.Forwards.{IsForward, IsQuantum};
+ghost use Rattle.dc_objects.specs.Blocks.{running_of};
+ghost use Rattle.dc_objects.specs.States.{state_of};
+ghost use Rattle.dc_machine.specs.Answers.{Answers, IsQuiet};
+ghost use Rattle.dc_machine.specs.InHand.{AreInHand, looked_in};
+ghost use Rattle.dc_machine.specs.Nexts.{stopped, first_runnable, IsNext, slice_what};
+
+use crate::blocks::Blocks;
+use crate::outsides::{put_outside, take_outside};
+use crate::turns::Stepped;
+use dc_base::actions::Actor;
+use dc_base::entries::{Entry, Reason, What};
+use dc_base::numbers::{BlockNo, CoreNo};
+use dc_kernel::{Driver, Forward, Sliced};
+use dc_objects::{CoreState, Objects};
+
+/// What a core does next: nothing, idle until its clock stands so, or a slice of a block.
+#[derive(Drop)]
+pub(crate) enum Next {
+    Nothing,
+    Idle(u64),
+    Slice { block: BlockNo, forward: Forward },
+}
+
+/// Why a core does nothing at all: its budget is used, or it is off.
+pub(crate) fn stopped(core: &CoreState) -> Option<Stepped>
+    ensures { result ≡ stopped core.now }
+{
+    if core.is_spent() {
+        return Some(Stepped::Spent);
+    }
+    match core.version() {
+        Some(_) => None,
+        None => Some(Stepped::NotEnabled(Reason::CoreOff)),
+    }
+}
+
+/// The first block of the share that can run.
+fn first_runnable<D: Driver, B: Blocks<D>>(core: &CoreState, blocks: &B) -> Option<BlockNo>
+    requires blocks { (c : ℕ) × AreInHand c core.now (B.seen blocks.now) }
+    ensures { option_map (λ (b : Number). b.0) result ≡ option_map (λ (l : Looked). l.number) (first_runnable core.now (looked_in (B.seen blocks.now) core.now.share)) }
+{
+    let share = core.share();
+    for i in 0..share.len() {
+        if let Some(b) = share.at(i) {
+            if let Some(block) = blocks.block(b) {
+                if block.runnable(core.clock()) {
+                    return Some(b);
+                }
+            }
+        }
+    }
+    None
+}
+
+/// The least of two clocks.
+fn sooner(least: Option<u64>, due: Option<i128>) -> Option<u64> {
+    let Some(due) = due else {
+        return least;
+    };
+    let due = if due < 0 { 0 } else { due as u64 };
+    match least {
+        Some(first) => Some(first.min(due)),
+        None => Some(due),
+    }
+}
+
+/// The core's clock at which the first timer of the share is due.
+fn next_due<D: Driver, B: Blocks<D>>(core: &CoreState, blocks: &B) -> Option<u64>
+    requires blocks { (c : ℕ) × AreInHand c core.now (B.seen blocks.now) }
+    ensures { result ≡ next_due (looked_in (B.seen blocks.now) core.now.share) }
+{
+    let share = core.share();
+    let mut least = None;
+    for i in 0..share.len() {
+        if let Some(b) = share.at(i) {
+            if let Some(block) = blocks.block(b) {
+                least = sooner(least, block.earliest());
+            }
+        }
+    }
+    least
+}
+
+/// What a core does next that is on and has not used its budget.
+pub(crate) fn next_of<D: Driver, B: Blocks<D>>(core: &CoreState, blocks: &B) -> Next
+    requires blocks { (c : ℕ) × AreInHand c core.now (B.seen blocks.now) }
+    requires quantum { IsQuantum core.now.settings.quantum }
+    ensures { IsNext core.now (looked_in (B.seen blocks.now) core.now.share) result }
+{
+    if let Some(b) = first_runnable(core, blocks) {
+        if let Some(block) = blocks.block(b) {
+            let forward = block.forward(core.clock(), core.settings().quantum());
+            return Next::Slice { block: b, forward };
+        }
+    }
+    match next_due(core, blocks) {
+        Some(clock) => Next::Idle(clock),
+        None => Next::Nothing,
+    }
+}
+
+/// What the entry of a slice says.
+pub(crate) fn slice_what(block: BlockNo, s: &Sliced, clock: u64) -> What
+    ensures { result ≡ slice_what block s.now clock }
+{
+    match s.disp {
+        Some(disp) => What::Slice {
+            block,
+            disp,
+            fired: s.fired,
+            ran: s.ran,
+            end: s.end,
+            clock,
+        },
+        None => What::SliceNone {
+            block,
+            fired: s.fired,
+            clock,
+        },
+    }
+}
+
+/// A slice of a block of the share, which can run.
+fn slice<D: Driver>(objects: &mut Objects<D>, c: CoreNo, b: BlockNo, forward: &Forward) -> Stepped
+    requires sound { IsSound (state_of objects.old) }
+    requires core { (k : Core) × (slice_get objects.old.cores.items c.0 ≡ Some k) × (has k.share b.0 ≡ true) × (k.used < k.settings.slices)
+        × ((x : Block) → slice_get objects.old.blocks.items b.0 ≡ Some x → IsForward k.settings.quantum k.clock (running_of x) forward.now) }
+    ensures step { (k : Core) → slice_get objects.old.cores.items c.0 ≡ Some k → Answers result (state_of objects.old) (state_of objects.new) (outcome (state_of objects.old) (slice_turn c.0 k b.0 (slice_get objects.old.blocks.items b.0))) }
+    ensures quiet { IsQuiet result }
+{
+    let clock = objects.cores[c.0 as usize].clock();
+    let outside = take_outside(objects, b, forward.need);
+    let block = &mut objects.blocks[b.0 as usize];
+    let (sliced, outside) = block.slice(clock, c, b, forward, outside);
+    put_outside(objects, b, forward.need, outside);
+    let after = clock + u64::from(sliced.advance);
+    objects.cores[c.0 as usize].ran(b, after);
+    Stepped::Did(Entry {
+        actor: Actor::Core(c),
+        what: slice_what(b, &sliced, after),
+    })
+}
+
+/// Idle until the core's clock stands so.
+fn idle<D: Driver>(objects: &mut Objects<D>, c: CoreNo, clock: u64) -> Stepped
+    requires { (k : Core) × (slice_get objects.old.cores.items c.0 ≡ Some k) × (k.used < k.settings.slices) }
+    ensures step { (k : Core) → slice_get objects.old.cores.items c.0 ≡ Some k → Answers result (state_of objects.old) (state_of objects.new) (idle_outcome c.0 k (Some clock)) }
+    ensures quiet { IsQuiet result }
+{
+    objects.cores[c.0 as usize].idled(clock);
+    Stepped::Did(Entry {
+        actor: Actor::Core(c),
+        what: What::Idle { clock },
+    })
+}
+
+/// A core's step.
+pub(crate) fn step_turn<D: Driver>(objects: &mut Objects<D>, c: CoreNo) -> Stepped
+    requires sound { IsSound (state_of objects.old) }
+    requires core { c.0 < length objects.old.cores.items }
+    ensures step { Answers result (state_of objects.old) (state_of objects.new) (core_step (state_of objects.old) 0 (actor.Core c) action.Step) }
+    ensures quiet { IsQuiet result }
+{
+    let core = &objects.cores[c.0 as usize];
+    if let Some(stop) = stopped(core) {
+        return stop;
+    }
+    match next_of(core, objects) {
+        Next::Nothing => Stepped::NotEnabled(Reason::Nothing),
+        Next::Idle(clock) => idle(objects, c, clock),
+        Next::Slice { block, forward } => slice(objects, c, block, &forward),
+    }
+}
