@@ -40,7 +40,8 @@ impl Model for ScriptState {
 }
 
 impl ScriptState {
-    /// The script before its first line, with the boot state of the image.
+    /// The script before its first line.
+    #[tactic(auto, using(crate::proofs::ScriptPlaces::next_raise_first))]
     pub fn start(settings: Settings, lines: Items<ScriptLine>, registry: Registry) -> ScriptState
         requires { length lines ≤ 4096 }
         ensures { result ≡ record { settings = settings; lines = lines; registry = registry; place = next_command lines 0; raises = 0; posts = 0 } }
@@ -119,6 +120,7 @@ impl ScriptState {
         self.place_after()
     }
 
+    #[tactic(auto, using(crate::proofs::ScriptPlaces::no_command_past))]
     fn place_after(&self) -> u32
         ensures value { result ≡ next_command self.now.lines (self.now.place + 1) }
         ensures within { result ≤ length self.now.lines }
@@ -156,6 +158,7 @@ impl ScriptState {
     }
 
     /// The next raise was made.
+    #[tactic(auto, using(crate::proofs::ScriptPlaces::next_raise_after))]
     pub fn raised(&mut self)
         requires { IsSome (next_raise self.old.lines self.old.raises) }
         ensures { self.new ≡ record self.old { raises = self.old.raises + 1 } }
