@@ -33,7 +33,7 @@ pub(crate) struct Pending {
 }
 
 /// The pending raise of a line that core `c` may take in, which is on.
-pub(crate) fn pending(core: &CoreState, c: CoreNo, line: &Line) -> Result<Pending, Reason>
+pub(crate) fn raise_for(core: &CoreState, c: CoreNo, line: &Line) -> Result<Pending, Reason>
     ensures taken { IfOk result (IsPending c.0 core.now line.now) }
     ensures refused { IfErr result (λ why. (l : ℕ) → intake_line c.0 core.now l (Some line.now) ≡ ends (not_enabled why)) }
     ensures quiet { IfErr result (λ why. IsQuiet (stepped.NotEnabled why)) }
@@ -97,7 +97,7 @@ pub(crate) fn intake_turn<D: Driver>(objects: &mut Objects<D>, c: CoreNo, l: Lin
     if core.version().is_none() {
         return Stepped::NotEnabled(Reason::CoreOff);
     }
-    match pending(core, c, &objects.lines[l.0 as usize]) {
+    match raise_for(core, c, &objects.lines[l.0 as usize]) {
         Ok(p) => take_in(objects, c, l, p),
         Err(why) => Stepped::NotEnabled(why),
     }

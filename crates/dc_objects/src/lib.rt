@@ -10,7 +10,6 @@ mod places;
 mod readers;
 mod scripts;
 mod settings;
-mod starts;
 
 pub use blocks::BlockState;
 pub use cores::CoreState;
@@ -18,4 +17,3 @@ pub use mailboxes::Mailbox;
 pub use whole::Objects;
 pub use scripts::ScriptState;
 pub use settings::Settings;
-pub use starts::objects;
