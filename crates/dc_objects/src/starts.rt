@@ -8,7 +8,7 @@ ghost use Rattle.dc_base.specs.declared.kernels.Version.TheVariants.{Rr, Edf};
 ghost use Rattle.dc_base.specs.Valid.{IsValid, IsValidScript, HomesDiffer};
 ghost use Rattle.dc_base.specs.States.{core_start, settings_of, home_members_from, cores_from, core_started, block_started, first_place, script_start, idle_wire, empty};
 ghost use Rattle.dc_kcb.specs.Starts.{BootsIn};
-ghost use Rattle.dc_objects.specs.Starts.{AreBases, idle_ring};
+ghost use Rattle.dc_objects.specs.Starts.{AreBases, idle_ring, is_home_of, home_on};
 ghost use Rattle.dc_objects.specs.States.{state_of};
 
 use crate::blocks::{BlockState, Form};
@@ -41,6 +41,16 @@ fn add<T: Drop>(list: &mut Vec<T>, element: T) -> Result<(), Memory>
     }
 }
 
+/// Whether core `c` is the block's home.
+fn is_home(c: CoreNo, block: &BlockImage) -> bool
+    ensures { result ≡ is_home_of c.0 block.now }
+{
+    match block.home {
+        Some(home) => home.0 == c.0,
+        None => false,
+    }
+}
+
 /// The blocks whose home is core `c`.
 fn share_of(c: CoreNo, blocks: &[BlockImage]) -> Share
     requires most { length blocks.now ≤ 16 }
@@ -49,7 +59,7 @@ fn share_of(c: CoreNo, blocks: &[BlockImage]) -> Share
 {
     let mut share = Share::empty();
     for at in 0..blocks.len() {
-        if blocks[at].home == Some(c) {
+        if is_home(c, &blocks[at]) {
             share.add(BlockNo(at as u32), false);
         }
     }
@@ -71,6 +81,7 @@ fn cores_of(alloc: Global, settings: Settings, image: &Image) -> Result<Vec<Core
 
 /// The core that is a block's home, where it is on, with its version and its clock.
 fn home_of(cores: &[CoreImage], home: Option<CoreNo>) -> Option<(CoreNo, Version, u64)>
+    ensures { result ≡ home_on cores.now home }
 {
     let home = home?;
     let core = cores.get(home.0 as usize)?;
