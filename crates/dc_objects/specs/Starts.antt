@@ -1,5 +1,5 @@
 -- What the start of a machine asks of its image.
-use Rattle.std.specs.Prelude.{◌≡◌, ℕ, ◌<◌, ◌^◌, List, [], Bool, Option, slice_get}
+use Rattle.std.specs.Prelude.{ℕ, ◌<◌, ◌^◌, List, [], Bool, Option, slice_get}
 use Rattle.std.specs.Option.{option_map}
 use Rattle.dc_base.specs.declared.images.BlockImage.{BlockImage}
 use Rattle.dc_base.specs.declared.images.CoreImage.{CoreImage}

@@ -6,7 +6,7 @@ ghost use Rattle.dc_base.specs.declared.images.BlockImage.{BlockImage as BlockSp
 ghost use Rattle.dc_base.specs.declared.images.ChanImage.{ChanImage as ChanSpec};
 ghost use Rattle.dc_base.specs.declared.kernels.Version.TheVariants.{Rr, Edf};
 ghost use Rattle.dc_base.specs.Valid.{IsValid, IsValidScript, HomesDiffer};
-ghost use Rattle.dc_base.specs.States.{core_start, settings_of, home_members_from, cores_from, core_started, block_started, first_place, script_start, idle_wire, empty};
+ghost use Rattle.dc_base.specs.States.{core_start, settings_of, home_members_from, cores_from, block_started, idle_wire, empty};
 ghost use Rattle.dc_kcb.specs.Starts.{BootsIn};
 ghost use Rattle.dc_objects.specs.Starts.{AreBases, idle_ring, is_home_of, home_on};
 ghost use Rattle.dc_objects.specs.States.{state_of};
@@ -14,9 +14,9 @@ ghost use Rattle.dc_objects.specs.States.{state_of};
 use crate::blocks::{BlockState, Form};
 use crate::cores::CoreState;
 use crate::mailboxes::Mailbox;
-use crate::whole::Objects;
 use crate::scripts::ScriptState;
 use crate::settings::Settings;
+use crate::whole::Objects;
 use dc_base::commands::ScriptLine;
 use dc_base::images::{BlockImage, ChanImage, CoreImage, Image};
 use dc_base::kernels::Version;
@@ -74,7 +74,10 @@ fn cores_of(alloc: Global, settings: Settings, image: &Image) -> Result<Vec<Core
     for at in 0..image.cores.len() {
         let core = &image.cores.as_slice()[at];
         let share = share_of(CoreNo(at as u32), image.blocks.as_slice());
-        add(&mut cores, CoreState::new(settings, core.version, core.base, share))?;
+        add(
+            &mut cores,
+            CoreState::new(settings, core.version, core.base, share),
+        )?;
     }
     Ok(cores)
 }
@@ -89,7 +92,11 @@ fn home_of(cores: &[CoreImage], home: Option<CoreNo>) -> Option<(CoreNo, Version
     Some((home, version, core.base))
 }
 
-fn block_of<D: Driver>(alloc: Global, cores: &[CoreImage], image: &BlockImage) -> Result<BlockState<D>, Memory>
+fn block_of<D: Driver>(
+    alloc: Global,
+    cores: &[CoreImage],
+    image: &BlockImage,
+) -> Result<BlockState<D>, Memory>
     requires boots { BootsIn image.now }
     requires bases { AreBases cores.now }
     requires first { D.served Rr ≡ true }
@@ -172,7 +179,11 @@ fn copy_of(alloc: Global, script: &Items<ScriptLine>) -> Result<Items<ScriptLine
 }
 
 /// The objects of the machine of a valid image and a script for it, at their start.
-pub fn objects<D: Driver>(alloc: Global, image: &Image, script: &Items<ScriptLine>) -> Result<Objects<D>, Memory>
+pub fn objects<D: Driver>(
+    alloc: Global,
+    image: &Image,
+    script: &Items<ScriptLine>,
+) -> Result<Objects<D>, Memory>
     requires image { IsValid image.now }
     requires script { IsValidScript (settings_of image.now) script.now }
     requires first { D.served Rr ≡ true }

@@ -1,4 +1,4 @@
-use Rattle.dc_objects.proofs.Starting.{AreMembers}
+use Rattle.dc_objects.proofs.StartMembers.{AreMembers}
 use Rattle.dc_objects.proofs.starts.share_of.Given as goal
 
 abbrev pub invariant-loop-at : goal.invariant-loop-at

@@ -1,20 +1,16 @@
--- Lemmas about the start: one home block or one mailbox more.
-use Rattle.std.proofs.Common.{◌≡◌, ℕ, zero, suc, ◌+◌, ◌<◌, ◌≤◌, List, [], ◌∷◌, ◌++◌, Bool, true, false, Option, Some, None, refl, sym, ap, ◌∙◌, length, drop, take, map, get_or, slice_get, arith}
-use Rattle.std.specs.Prelude.{if◌then◌else◌, unwrap_or, ◌^◌}
+-- The share of a core at the start, block by block.
+use Rattle.std.proofs.Common.{◌≡◌, ℕ, ◌+◌, ◌<◌, ◌≤◌, List, [], ◌∷◌, ◌++◌, Bool, true, false, Option, Some, None, refl, sym, ap, ◌∙◌, length, drop, get_or, slice_get, arith}
+use Rattle.std.specs.Prelude.{if◌then◌else◌}
 use Rattle.std.specs.Option.{option_map}
 use Rattle.std.proofs.lemmas.Bool.{eqb-true}
 use Rattle.std.proofs.lemmas.List.{drop_more}
 use Rattle.std.proofs.lemmas.Option.{slice_get-get_or}
 use Rattle.dc_base.specs.declared.images.BlockImage.{BlockImage}
-use Rattle.dc_base.specs.declared.images.Image.{Image}
-use Rattle.dc_kcb.specs.Starts.{BootsIn}
-use Rattle.dc_base.specs.declared.images.CoreImage.{CoreImage}
-use Rattle.dc_base.specs.declared.kernels.Version.{Version}
 use Rattle.dc_base.specs.declared.numbers.CoreNo.{CoreNo}
-use Rattle.dc_base.specs.Valid.{HomesDiffer, IsValid}
-use Rattle.dc_base.specs.Words.{bind, is_number}
-use Rattle.dc_objects.specs.Starts.{is_home_of, home_on, AreBases}
-use Rattle.dc_base.specs.States.{Settings, Core, Member, home_members_from, cores_from, core_started, Whereabouts, rest, place_on, first_place}
+use Rattle.dc_base.specs.Valid.{HomesDiffer}
+use Rattle.dc_base.specs.Words.{is_number}
+use Rattle.dc_base.specs.States.{Member, home_members_from}
+use Rattle.dc_objects.specs.Starts.{is_home_of}
 
 append_one : {X : Type 0} (xs ys : List X) (x : X) → (xs ++ x ∷ []) ++ ys ≡ xs ++ x ∷ ys
 append_one [] ys x = refl
@@ -56,17 +52,3 @@ no_member_more c blocks at share d h e a = record {
   told = ap (λ ms. share ++ ms) (sym (member_later c.0 blocks at d h e)) ∙ a.told;
   awaits = λ k x below g f. a.awaits k x (omega arith) g f;
 }
-
-pub one_constant_more : {X Y : Type 0} (y : Y) (xs : List X) (i : ℕ) → i < length xs → map (λ (x : X). y) (take (i + 1) xs) ≡ map (λ (x : X). y) (take i xs) ++ y ∷ []
-one_constant_more {X} y [] i h = absurd (omega arith)
-one_constant_more {X} y (x ∷ xs) zero h = refl
-one_constant_more {X} {Y} y (x ∷ xs) (suc i) h =
-    let e : suc i + 1 ≡ suc (i + 1) = omega arith in
-    rw e (ap (λ (zs : List Y). y ∷ zs) (one_constant_more {X = X} y xs i (omega arith)))
-
--- an element of a valid image's blocks is a block of some valid image
-pub boots_at : (image : Image) (xs : List BlockImage) (at : ℕ) (d : BlockImage) → IsValid image → xs ≡ image.blocks → at < length image.blocks → d ≡ get_or xs at d → BootsIn d
-boots_at image xs at d valid e h is =
-    let there = slice_get-get_or image.blocks at d h in
-    let same : d ≡ get_or image.blocks at d = is ∙ ap (λ (ys : List BlockImage). get_or ys at d) e in
-    (image, at, valid.blocks at d (there ∙ ap (λ (x : BlockImage). Some x) (sym same)))
