@@ -18,7 +18,7 @@ use crate::scripts::ScriptState;
 use crate::settings::Settings;
 use crate::whole::Objects;
 use dc_base::commands::ScriptLine;
-use dc_base::images::{BlockImage, ChanImage, CoreImage, Image};
+use dc_base::images::{BlockImage, CoreImage, Image};
 use dc_base::kernels::Version;
 use dc_base::lists::Items;
 use dc_base::memory::Memory;
