@@ -1,1 +1,3 @@
 pub mod ScriptPlaces
+pub mod StartMembers
+pub mod StartWhole

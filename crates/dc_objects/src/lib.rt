@@ -10,6 +10,7 @@ mod places;
 mod readers;
 mod scripts;
 mod settings;
+mod starts;
 
 pub use blocks::BlockState;
 pub use cores::CoreState;
@@ -17,3 +18,4 @@ pub use mailboxes::Mailbox;
 pub use whole::Objects;
 pub use scripts::ScriptState;
 pub use settings::Settings;
+pub use starts::objects;
