@@ -15,5 +15,5 @@ mod turns;
 mod wakes;
 
 pub use blocks::Blocks;
-pub use dc_objects::{BlockState, CoreState, Mailbox, Objects, ScriptState, Settings};
+pub use dc_objects::{BlockState, CoreState, Mailbox, Objects, ScriptState, Settings, objects};
 pub use turns::{Stepped, step};
