@@ -1,0 +1,10 @@
+pub mod Disps
+pub mod Intakings
+pub mod Postings
+pub mod Raisings
+pub mod Refusals
+pub mod ScriptTurns
+pub mod Sounds
+pub mod Stops
+pub mod WakeTurns
+pub mod Wakings

@@ -4,5 +4,6 @@ pub mod InHand
 pub mod Lifts
 pub mod Nexts
 pub mod Pendings
+pub mod Raised
 pub mod Slots
 pub mod Waits

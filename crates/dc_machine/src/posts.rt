@@ -1,7 +1,8 @@
 //! A boot command goes on: it is refused, or its orders are posted one after another.
 
-ghost use Rattle.std.specs.Prelude.{◌≡◌, ◌<◌, [], Some, None, length, slice_get};
-ghost use Rattle.std.specs.Option.{option_map};
+ghost use Rattle.std.specs.Prelude.{◌≡◌, ◌<◌, [], false, Some, None, slice_get, slice_set};
+ghost use Rattle.std.specs.Option.{option_map, option_map_or};
+ghost use Rattle.dc_objects.specs.Mailboxes.{is_ack};
 ghost use Rattle.dc_base.specs.declared.commands.ScriptLine.TheVariants as line;
 ghost use Rattle.dc_base.specs.Boot.{orders, refusal};
 ghost use Rattle.dc_base.specs.Commands.{begin, boot_turn, post, post_or_done};
@@ -42,15 +43,33 @@ fn refuse<D: Driver>(objects: &mut Objects<D>, refusal: Refusal) -> Stepped
     by_script(What::Refused { place, refusal })
 }
 
+/// Puts a letter into the mailbox of a core, if there is one.
+fn deliver(mailboxes: &mut Vec<Mailbox>, core: CoreNo, letter: Mailbox)
+    ensures { mailboxes.new.items ≡ slice_set mailboxes.old.items core.0 letter }
+{
+    if let Some(mailbox) = mailboxes.get_mut(core.0 as usize) {
+        *mailbox = letter;
+    }
+}
+
+/// Whether a core has carried its last order out.
+fn has_acked(mailboxes: &[Mailbox], core: CoreNo) -> bool
+    ensures { result ≡ option_map_or is_ack (slice_get mailboxes.now core.0) false }
+{
+    match mailboxes.get(core.0 as usize) {
+        Some(mailbox) => mailbox.is_ack(),
+        None => false,
+    }
+}
+
 /// An order is posted to a core.
 fn post<D: Driver>(objects: &mut Objects<D>, core: CoreNo, order: Order) -> Stepped
-    requires core { core.0 < length objects.old.mailboxes.items }
-    requires posts { objects.old.script.posts < 2 }
+    requires { objects.old.script.posts < 2 }
     ensures step { Answers result (state_of objects.old) (state_of objects.new) (outcome (state_of objects.old) (post objects.old.script [] (core.0, order))) }
     ensures quiet { IsQuiet result }
 {
     let place = objects.script.place();
-    objects.mailboxes[core.0 as usize] = Mailbox::holding(order);
+    deliver(&mut objects.mailboxes, core, Mailbox::holding(order));
     objects.script.posted();
     by_script(What::Post { place, core, order })
 }
@@ -68,10 +87,10 @@ fn go_on<D: Driver>(objects: &mut Objects<D>, command: &Command, plan: &Plan) ->
     let Some((last, _)) = order_at(plan, posts - 1) else {
         return Stepped::NotEnabled(Reason::ScriptEnded);
     };
-    if !objects.mailboxes[last.0 as usize].is_ack() {
+    if !has_acked(objects.mailboxes.as_slice(), last) {
         return Stepped::NotEnabled(Reason::NoAck { core: last });
     }
-    objects.mailboxes[last.0 as usize] = Mailbox::empty();
+    deliver(&mut objects.mailboxes, last, Mailbox::empty());
     match order_at(plan, posts) {
         Some((core, order)) => post(objects, core, order),
         None => done(objects, command),

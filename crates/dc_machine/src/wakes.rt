@@ -4,6 +4,7 @@ ghost use Rattle.std.specs.Prelude.{◌≡◌, ◌<◌, Some, IsSome, length, sl
 ghost use Rattle.dc_base.specs.declared.actions.Actor.TheVariants as actor;
 ghost use Rattle.dc_base.specs.declared.actions.Action.TheVariants as action;
 ghost use Rattle.dc_base.specs.Cores.{core_step};
+ghost use Rattle.dc_base.specs.KeptByBlocks.{HasShape};
 ghost use Rattle.dc_base.specs.Sound.{IsSound};
 ghost use Rattle.dc_base.specs.States.{Block, Core};
 ghost use Rattle.dc_base.specs.Wakes.{after_wake};
@@ -29,15 +30,26 @@ pub(crate) enum ChannelWait {
     Receives(ChanNo),
 }
 
-/// The channel on which dispatcher `d` waits, if it does.
-pub(crate) fn channel_wait<D: Driver>(block: &BlockState<D>, d: DispNo) -> Option<ChannelWait>
-    ensures { result ≡ channel_wait (slice_get block.now.control.states d.0) }
+/// The channel on which a dispatcher in this state waits, if it does.
+fn wait_in(state: DispState) -> Option<ChannelWait>
+    ensures { result ≡ channel_wait (Some state) }
 {
-    let disp = block.disp(d)?;
-    match disp.state {
+    match state {
         DispState::Waits(Wait::Csend(x)) => Some(ChannelWait::Sends(x)),
         DispState::Waits(Wait::Crecv(x)) => Some(ChannelWait::Receives(x)),
         _ => None,
+    }
+}
+
+/// The channel on which dispatcher `d` waits, if it does.
+#[tactic(auto, using(crate::proofs::Disps::state_told, crate::proofs::Disps::none_told))]
+pub(crate) fn channel_wait<D: Driver>(block: &BlockState<D>, d: DispNo) -> Option<ChannelWait>
+    requires { HasShape block.now.control }
+    ensures { result ≡ channel_wait (slice_get block.now.control.states d.0) }
+{
+    match block.disp(d) {
+        Some(disp) => wait_in(disp.state),
+        None => None,
     }
 }
 
