@@ -1,9 +1,11 @@
+pub mod ActionTurns
 pub mod Disps
 pub mod Intakings
 pub mod Postings
 pub mod Raisings
 pub mod Refusals
 pub mod ScriptTurns
+pub mod Scripted
 pub mod Sounds
 pub mod Stops
 pub mod WakeTurns

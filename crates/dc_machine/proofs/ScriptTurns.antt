@@ -66,3 +66,11 @@ pub quiet_other : (a : Action) (r : Stepped) (s new : State) (polls : ℕ) (o : 
 quiet_other a r s new polls (did changes e) k q h = sym (k polls)
 quiet_other a r s new polls (not_enabled why) k q h = sym (quiet_at why polls (subst (λ t. IsQuiet t) q.0 h))
 quiet_other a r s new polls spent k q h = refl
+
+-- an action that is not enabled leaves the polls as they are, but for a poll
+pub unchanged : (a : Action) (polls : ℕ) (why : Reason) (o : Outcome) → o ≡ not_enabled why → IsQuiet (stepped.NotEnabled why) → polls ≡ polls_then a polls o
+unchanged a polls why o e h = sym (ap (λ q. polls_then a polls q) e ∙ quiet_at why polls h)
+
+-- past its last line the script has ended
+pub no_line : (s : State) (polls : ℕ) → slice_get s.script.lines s.script.place ≡ None → outcome s (commanded s polls) ≡ not_enabled reason.ScriptEnded
+no_line s polls e = ap (λ o. outcome s (command_turn s.script polls o)) e

@@ -1,6 +1,6 @@
 //! Script: the command at the script's place goes on.
 
-ghost use Rattle.std.specs.Prelude.{◌≡◌, ℕ, ◌<◌, ◌≤◌, if◌then◌else◌, Some, length};
+ghost use Rattle.std.specs.Prelude.{◌≡◌, ℕ, ◌<◌, ◌≤◌, if◌then◌else◌, Some, length, slice_get};
 ghost use Rattle.dc_base.specs.declared.actions.Actor.TheVariants as actor;
 ghost use Rattle.dc_base.specs.declared.actions.Action.TheVariants as action;
 ghost use Rattle.dc_base.specs.declared.commands.ScriptLine.TheVariants as line;
@@ -102,6 +102,24 @@ fn without_poll(polls: &mut u32, stepped: Stepped) -> Stepped
     stepped
 }
 
+/// The command on a line of the script goes on, at which the script stands.
+#[tactic(auto, using(crate::proofs::ScriptTurns::quiet_script))]
+fn command<D: Driver>(objects: &mut Objects<D>, polls: &mut u32, line: ScriptLine) -> Stepped
+    requires sound { IsSound (state_of objects.old) }
+    requires polls { polls.old ≤ 1000000000 }
+    requires line { slice_get objects.old.script.lines objects.old.script.place ≡ Some line }
+    ensures step { Answers result (state_of objects.old) (state_of objects.new) (outcome (state_of objects.old) (command_turn objects.old.script polls.old (Some line))) }
+    ensures polls { polls.new ≡ polls_then action.Script polls.old (outcome (state_of objects.old) (command_turn objects.old.script polls.old (Some line))) }
+    ensures few { polls.new ≤ 1000000000 }
+{
+    match line {
+        ScriptLine::Boot(command) => without_poll(polls, boot_turn(objects, &command)),
+        ScriptLine::Route(l, core) => without_poll(polls, route(objects, l, core)),
+        ScriptLine::Await(b, words, limit) => poll(objects, polls, b, words, limit),
+        ScriptLine::Raise(_) => Stepped::NotEnabled(Reason::ScriptEnded),
+    }
+}
+
 /// The script goes on with the command at its place, if it may.
 pub(crate) fn script_turn<D: Driver>(objects: &mut Objects<D>, polls: &mut u32) -> Stepped
     requires sound { IsSound (state_of objects.old) }
@@ -117,9 +135,7 @@ pub(crate) fn script_turn<D: Driver>(objects: &mut Objects<D>, polls: &mut u32) 
         return Stepped::NotEnabled(Reason::RaisesFirst { line });
     }
     match objects.script.line(objects.script.place()) {
-        Some(ScriptLine::Boot(command)) => without_poll(polls, boot_turn(objects, &command)),
-        Some(ScriptLine::Route(l, core)) => without_poll(polls, route(objects, l, core)),
-        Some(ScriptLine::Await(b, words, limit)) => poll(objects, polls, b, words, limit),
-        _ => Stepped::NotEnabled(Reason::ScriptEnded),
+        Some(line) => command(objects, polls, line),
+        None => Stepped::NotEnabled(Reason::ScriptEnded),
     }
 }
