@@ -1,2 +1,4 @@
 pub mod InHands
 pub mod ShareChanges
+pub mod OrderFacts
+pub mod OrderSteps
