@@ -1,0 +1,2 @@
+pub mod InHands
+pub mod Lifting
