@@ -1,4 +1,5 @@
 pub mod InHands
+pub mod Lifting
 pub mod ShareChanges
 pub mod OrderFacts
 pub mod OrderSteps
