@@ -3,6 +3,7 @@ use Rattle.std.proofs.Common.{◌≡◌, ℕ, List, [], ◌∷◌, ◌++◌, Boo
 use Rattle.std.specs.Prelude.{slice_get, slice_set}
 use Rattle.dc_base.specs.declared.actions.Actor.TheVariants as actor
 use Rattle.dc_base.specs.declared.commands.Order.TheVariants as orders
+use Rattle.dc_base.specs.declared.entries.Reason.TheVariants as reason
 use Rattle.dc_base.specs.declared.entries.What.{What}
 use Rattle.dc_base.specs.declared.entries.What.TheVariants as what
 use Rattle.dc_base.specs.declared.kernels.Version.{Version}
@@ -57,6 +58,11 @@ module _ (s t : State) (c : CoreNo) (r : Stepped) (k y : Core) where
   release_step b x time blocks found a e f g =
       subst (λ o. Answers r s t (release_outcome c.0 k b.0 o)) (sym found)
       (joined (record k { share = share_without b.0 k.share }) blocks (slice_set s.blocks b.0 (block_at_rest k.clock x)) (what.Release b time) (what.Release b (time_at k.clock x.whereabouts)) a e f (ap (what.Release b) g))
+
+  -- a core that is off adopts nothing
+  pub no_adopt_step : (b : BlockNo) (parked : Bool) → k.version ≡ None → Answers (stepped.NotEnabled reason.NoOrder) s s (outcome s (carry_out c.0 k (orders.Adopt b parked)))
+  unfolding carry_out
+  no_adopt_step b parked e = subst (λ o. Answers (stepped.NotEnabled reason.NoOrder) s s (adopt_outcome c.0 k b.0 parked o (slice_get s.blocks b.0))) (sym e) (refl, refl)
 
   pub adopt_step : (b : BlockNo) (parked : Bool) (x : Block) (v : Version) (time : ℕ) (blocks : List Block) → k.version ≡ Some v → slice_get s.blocks b.0 ≡ Some x → Acked r s t c (what.Adopt b parked time) y blocks →
       y ≡ record k { share = k.share ++ record { block = b.0; parked = parked } ∷ [] } → blocks ≡ slice_set s.blocks b.0 (record x { whereabouts = place_on c.0 k.clock time v }) →
