@@ -84,6 +84,29 @@ pub record IsAdoptable (s : State) (k : Core) (b : ℕ) (parked : Bool) : Type 0
   pub apart : has k.share b ≡ false
   pub room : HasRoom parked k.share
 
+-- the time at which a block is adopted, from what was read
+pub time_is : (time kept clock : ℕ) (t : Clocks) (k : Core) (x y : Block) → time ≡ adopted_time t kept clock → t ≡ k.settings.clocks → kept ≡ time_at clock y.whereabouts → clock ≡ k.clock → y ≡ x → time ≡ adopted_time k.settings.clocks (time_at k.clock x.whereabouts) k.clock
+time_is time kept clock t k x y e f g h i =
+    e
+    ∙ ap (λ u. adopted_time u kept clock) f
+    ∙ ap (λ n. adopted_time k.settings.clocks n clock) g
+    ∙ ap (λ n. adopted_time k.settings.clocks (time_at n y.whereabouts) n) h
+    ∙ ap (λ (z : Block). adopted_time k.settings.clocks (time_at k.clock z.whereabouts) k.clock) i
+
+module _ (s : State) (k : Core) (b : ℕ) (parked : Bool) (r : IsAdoptable s k b parked) (time : ℕ) (is : time ≡ adopted_time k.settings.clocks (time_at k.clock r.block.whereabouts) k.clock) where
+  pub goes_forward : kept_in r.block ≤ time
+  goes_forward =
+      let same = kept_time k.clock r.block r.resting in
+      let more = from_kept k.settings.clocks (time_at k.clock r.block.whereabouts) k.clock in
+      omega (arith, same, more, is)
+
+  pub time_below : time < 2 ^ 63
+  time_below =
+      let same = kept_time k.clock r.block r.resting in
+      let kept : time_at k.clock r.block.whereabouts < 2 ^ 63 = let low = r.kept in omega (arith, same, low) in
+      let low = adopted_below k.settings.clocks (time_at k.clock r.block.whereabouts) k.clock (2 ^ 63) kept r.clock in
+      omega (arith, low, is)
+
 room_by : (parked : Bool) (k : Core) → Fits parked k → HasRoom parked k.share
 room_by false k h = h
 room_by true k h = h

@@ -1,7 +1,9 @@
 -- What a core and its blocks are after an order, as the definitions have it.
-use Rattle.std.proofs.Common.{◌≡◌, ℕ, List, [], ◌∷◌, ◌++◌, Bool, Option, Some, None, refl, sym, ap, ◌∙◌, subst, length, map}
+use Rattle.std.proofs.Common.{◌≡◌, ℕ, zero, suc, ◌<◌, List, [], ◌∷◌, ◌++◌, Bool, Option, Some, None, refl, sym, ap, ◌∙◌, subst, length, get_or, map, arith}
 use Rattle.std.specs.Prelude.{slice_get, slice_set}
 use Rattle.dc_base.specs.declared.actions.Actor.TheVariants as actor
+use Rattle.dc_base.specs.declared.actions.Action.TheVariants as action
+use Rattle.dc_base.specs.declared.commands.Order.{Order}
 use Rattle.dc_base.specs.declared.commands.Order.TheVariants as orders
 use Rattle.dc_base.specs.declared.entries.Reason.TheVariants as reason
 use Rattle.dc_base.specs.declared.entries.What.{What}
@@ -9,14 +11,19 @@ use Rattle.dc_base.specs.declared.entries.What.TheVariants as what
 use Rattle.dc_base.specs.declared.kernels.Version.{Version}
 use Rattle.dc_base.specs.declared.numbers.BlockNo.{BlockNo}
 use Rattle.dc_base.specs.declared.numbers.CoreNo.{CoreNo}
-use Rattle.dc_base.specs.Orders.{carry_out, block_at_rest, block_under, adopted_time, adopt_outcome, release_outcome}
+use Rattle.dc_base.specs.Orders.{carry_out, block_at_rest, block_under, adopted_time, adopt_outcome, release_outcome, order_turn}
+use Rattle.dc_base.specs.Cores.{core_turn, turn_of, core_step}
 use Rattle.dc_base.specs.Outcomes.{by_core, share_without}
-use Rattle.dc_base.specs.States.{State, Core, Block, Member, ack, time_at, place_on}
+use Rattle.dc_base.specs.States.{State, Core, Block, Member, Mailbox, empty, ack, time_at, place_on}
+use Rattle.dc_base.specs.States.{order as ordered}
+use Rattle.dc_base.specs.Sound.{IsSound}
 use Rattle.dc_base.specs.Turns.{outcome}
+use Rattle.dc_objects.specs.Mailboxes.{order_in}
 use Rattle.dc_machine.specs.Answers.{Answers}
 use Rattle.dc_machine.specs.Handing.{changed_all}
 use Rattle.dc_machine.specs.declared.turns.Stepped.{Stepped}
 use Rattle.dc_machine.specs.declared.turns.Stepped.TheVariants as stepped
+use Rattle.dc_machine.proofs.OrderFacts.{read_at}
 use Rattle.dc_machine.proofs.ShareChanges.{ListsOnce, share_applied}
 
 -- core c is this one and its mailbox is Ack; the blocks are these
@@ -59,11 +66,6 @@ module _ (s t : State) (c : CoreNo) (r : Stepped) (k y : Core) where
       subst (λ o. Answers r s t (release_outcome c.0 k b.0 o)) (sym found)
       (joined (record k { share = share_without b.0 k.share }) blocks (slice_set s.blocks b.0 (block_at_rest k.clock x)) (what.Release b time) (what.Release b (time_at k.clock x.whereabouts)) a e f (ap (what.Release b) g))
 
-  -- a core that is off adopts nothing
-  pub no_adopt_step : (b : BlockNo) (parked : Bool) → k.version ≡ None → Answers (stepped.NotEnabled reason.NoOrder) s s (outcome s (carry_out c.0 k (orders.Adopt b parked)))
-  unfolding carry_out
-  no_adopt_step b parked e = subst (λ o. Answers (stepped.NotEnabled reason.NoOrder) s s (adopt_outcome c.0 k b.0 parked o (slice_get s.blocks b.0))) (sym e) (refl, refl)
-
   pub adopt_step : (b : BlockNo) (parked : Bool) (x : Block) (v : Version) (time : ℕ) (blocks : List Block) → k.version ≡ Some v → slice_get s.blocks b.0 ≡ Some x → Acked r s t c (what.Adopt b parked time) y blocks →
       y ≡ record k { share = k.share ++ record { block = b.0; parked = parked } ∷ [] } → blocks ≡ slice_set s.blocks b.0 (record x { whereabouts = place_on c.0 k.clock time v }) →
       time ≡ adopted_time k.settings.clocks (time_at k.clock x.whereabouts) k.clock → Answers r s t (outcome s (carry_out c.0 k (orders.Adopt b parked)))
@@ -74,3 +76,46 @@ module _ (s t : State) (c : CoreNo) (r : Stepped) (k y : Core) where
       (subst (λ o. Answers r s t (adopt_outcome c.0 k b.0 parked o (Some x))) (sym version)
       (joined (record k { share = k.share ++ record { block = b.0; parked = parked } ∷ [] }) blocks (slice_set s.blocks b.0 (record x { whereabouts = place_on c.0 k.clock at v })) (what.Adopt b parked time) (what.Adopt b parked at) a e
       (f ∙ ap (λ n. slice_set s.blocks b.0 (record x { whereabouts = place_on c.0 k.clock n v })) g) (ap (what.Adopt b parked) g)))
+
+-- a core that is off adopts nothing
+pub no_adopt_step : (s : State) (c : CoreNo) (k : Core) (b : BlockNo) (parked : Bool) → k.version ≡ None → Answers (stepped.NotEnabled reason.NoOrder) s s (outcome s (carry_out c.0 k (orders.Adopt b parked)))
+unfolding carry_out
+no_adopt_step s c k b parked e = subst (λ o. Answers (stepped.NotEnabled reason.NoOrder) s s (adopt_outcome c.0 k b.0 parked o (slice_get s.blocks b.0))) (sym e) (refl, refl)
+
+-- the order that waits
+
+holds_by : (m : Mailbox) (o : Order) → Some o ≡ order_in m → m ≡ ordered o
+holds_by empty o e = absurd cc
+holds_by (ordered w) o e = let same : w ≡ o = cc in ap ordered same
+holds_by ack o e = absurd cc
+
+there_is : {A : Type 0} (xs : List A) (i : ℕ) → i < length xs → (x : A) × (slice_get xs i ≡ Some x)
+there_is [] i h = absurd (omega (arith, h))
+there_is (x ∷ xs) zero h = (x, refl)
+there_is (x ∷ xs) (suc i) h = there_is xs i (omega (arith, h))
+
+module _ (s : State) (p : IsSound s) (c : CoreNo) (m : Mailbox) (within : c.0 < length s.cores) (read : m ≡ get_or s.mailboxes c.0 m) where
+  mailbox_at : slice_get s.mailboxes c.0 ≡ Some m
+  mailbox_at = read_at s.mailboxes c.0 m (let n = p.settled.cores in let l = p.settled.mailboxes in omega (arith, n, l, within)) read
+
+  pub order_waits : (o : Order) → Some o ≡ order_in m → slice_get s.mailboxes c.0 ≡ Some (ordered o)
+  order_waits o e = mailbox_at ∙ ap Some (holds_by m o e)
+
+  pub order_step : (t : State) (r : Stepped) (o : Order) → Some o ≡ order_in m → ((k : Core) → slice_get s.cores c.0 ≡ Some k → Answers r s t (outcome s (carry_out c.0 k o))) → Answers r s t (core_step s 0 (actor.Core c) action.Order)
+  unfolding core_step turn_of
+  order_step t r o e does =
+      let k = there_is s.cores c.0 within in
+      subst (λ q. Answers r s t (outcome s (core_turn c.0 action.Order q))) (sym k.1)
+      (subst (λ q. Answers r s t (outcome s (order_turn c.0 k.0 q))) (sym (order_waits o e)) (does k.0 k.1))
+
+  nothing_by : (k : Core) (l : Mailbox) → None ≡ order_in l → Answers (stepped.NotEnabled reason.NoOrder) s s (outcome s (order_turn c.0 k (Some l)))
+  nothing_by k empty e = (refl, refl)
+  nothing_by k (ordered o) e = absurd cc
+  nothing_by k ack e = (refl, refl)
+
+  pub no_order_step : None ≡ order_in m → Answers (stepped.NotEnabled reason.NoOrder) s s (core_step s 0 (actor.Core c) action.Order)
+  unfolding core_step turn_of
+  no_order_step e =
+      let k = there_is s.cores c.0 within in
+      subst (λ q. Answers (stepped.NotEnabled reason.NoOrder) s s (outcome s (core_turn c.0 action.Order q))) (sym k.1)
+      (subst (λ q. Answers (stepped.NotEnabled reason.NoOrder) s s (outcome s (order_turn c.0 k.0 q))) (sym mailbox_at) (nothing_by k.0 m e))
