@@ -1,11 +1,16 @@
 pub mod ActionTurns
 pub mod Disps
+pub mod InHands
 pub mod Intakings
+pub mod Lifting
+pub mod OrderFacts
+pub mod OrderSteps
 pub mod Postings
 pub mod Raisings
 pub mod Refusals
 pub mod ScriptTurns
 pub mod Scripted
+pub mod ShareChanges
 pub mod Sounds
 pub mod Stops
 pub mod WakeTurns

@@ -1,6 +1,5 @@
 -- A list from which one element was lifted.
 use Rattle.std.specs.Prelude.{ℕ, ◌-◌, List, Option, Some, None, slice_get, slice_set, length, take}
-use Rattle.dc_base.specs.declared.calls.Need.{Need}
 
 abbrev pub with_at : {T : Type 0} → List T → ℕ → Option T → List T
 with_at xs i None = xs

@@ -2,6 +2,7 @@
 
 ghost use Rattle.std.specs.Prelude.{◌≡◌, ℕ, ◌<◌, ◌≤◌, ◌^◌, true, Some, length, slice_get, slice_set};
 ghost use Rattle.dc_base.specs.Orders.{block_at_rest, block_under};
+ghost use Rattle.dc_base.specs.Placed.{count_in};
 ghost use Rattle.dc_base.specs.States.{Block, place_on};
 ghost use Rattle.dc_objects.specs.Blocks.{IsTimed};
 ghost use Rattle.dc_objects.specs.Places.{IsResting, kept_in};
@@ -47,7 +48,8 @@ pub(crate) fn adopt_block<D: Driver>(blocks: &mut Vec<BlockState<D>>, b: BlockNo
 
 /// All blocks of a core come to rest.
 pub(crate) fn release_all<D: Driver>(blocks: &mut Vec<BlockState<D>>, core: &CoreState)
-    requires { (c : ℕ) × AreInHand c core.now (slice_get blocks.old.items) }
+    requires blocks { (c : ℕ) × AreInHand c core.now (slice_get blocks.old.items) }
+    requires once { (b : ℕ) → count_in core.now.share b ≤ 1 }
     ensures { blocks.new.items ≡ changed_all (block_at_rest core.now.clock) core.now.share blocks.old.items }
 {
     let share = core.share();
@@ -61,6 +63,7 @@ pub(crate) fn release_all<D: Driver>(blocks: &mut Vec<BlockState<D>>, core: &Cor
 /// All blocks of a core go on under kernels of this version.
 pub(crate) fn replace_all<D: Driver>(blocks: &mut Vec<BlockState<D>>, core: &CoreState, v: Version)
     requires blocks { (c : ℕ) × AreInHand c core.now (slice_get blocks.old.items) }
+    requires once { (b : ℕ) → count_in core.now.share b ≤ 1 }
     requires served { D.served v ≡ true }
     ensures { blocks.new.items ≡ changed_all (block_under v) core.now.share blocks.old.items }
 {

@@ -37,7 +37,12 @@ pub(crate) fn take_outside<D: Driver>(objects: &mut Objects<D>, b: BlockNo, need
 }
 
 /// Puts the object back that a call of block `b` needed.
-pub(crate) fn put_outside<D: Driver>(objects: &mut Objects<D>, b: BlockNo, need: Need, outside: Outside)
+pub(crate) fn put_outside<D: Driver>(
+    objects: &mut Objects<D>,
+    b: BlockNo,
+    need: Need,
+    outside: Outside,
+)
     requires kind { Fits need outside }
     requires lifted { (s : State) × IsLifted s objects.old b.0 need × SameKind (look_in s b.0 need) (outside_seen outside) }
     ensures outside { (s : State) → IsLifted s objects.old b.0 need → SameKind (look_in s b.0 need) (outside_seen outside) →
