@@ -1,2 +1,4 @@
+pub mod Dues
+pub mod Firsts
 pub mod InHands
 pub mod Lifting
