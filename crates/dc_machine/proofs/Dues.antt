@@ -6,12 +6,13 @@ use Rattle.std.specs.Option.{option_map}
 use Rattle.std.proofs.lemmas.Bool.Decides.{nat_tests}
 use Rattle.std.proofs.lemmas.Grind.{flat_map-append}
 use Rattle.std.proofs.lemmas.Int.{ints}
-use Rattle.std.proofs.lemmas.List.{take_more}
+use Rattle.std.proofs.lemmas.List.{take_more, take_all, length-map, map-append}
+use Rattle.std.proofs.lemmas.List.Concat.{flat_map-cons}
 use Rattle.std.proofs.lemmas.Option.{none-some, same_Some, slice_get_within, get_or_from_slice_get}
 use Rattle.dc_base.specs.declared.interrupts.Timer.{Timer}
 use Rattle.dc_base.specs.Outcomes.{share_blocks}
 use Rattle.dc_base.specs.States.{Block, Member, Whereabouts, rest, on, time_on}
-use Rattle.dc_base.specs.Steps.{due_clocks, due_clock}
+use Rattle.dc_base.specs.Steps.{due_clocks, due_clock, next_due}
 use Rattle.dc_base.specs.Timers.{soonest, sooner, is_sooner}
 use Rattle.dc_base.specs.Turns.{Looked}
 use Rattle.dc_base.specs.Words.{least, lesser, above_zero, Each}
@@ -97,12 +98,48 @@ due_of x h = due_by x x.whereabouts refl h
 -- it is near
 soonest_has : (P : Timer → Type 0) (ts : List Timer) (s : Timer) → ((i : ℕ) (t : Timer) → slice_get ts i ≡ Some t → P t) → soonest ts ≡ Some s → P s
 soonest_has P [] s all e = absurd (none-some s e)
-soonest_has P (t ∷ ts) s all e = subst P (same_Some (sooner t (soonest ts)) s e) (by_rest (soonest ts) (λ m q. soonest_has P ts m (λ i u h. all (suc i) u h) q))
+soonest_has P (t ∷ ts) s all e = subst P (same_Some (sooner t (soonest ts)) s e) (by_rest (λ m q. soonest_has P ts m (λ i u h. all (suc i) u h) q) (soonest ts) refl)
   where
     by_sooner : (m : Timer) (b : Bool) → P m → P (cond b m t)
     by_sooner m true h = h
     by_sooner m false h = all 0 t refl
 
-    by_rest : (o : Option Timer) → ((m : Timer) → soonest ts ≡ Some m → P m) → P (sooner t o)
-    by_rest None more = all 0 t refl
-    by_rest (Some m) more = ?
+    by_rest : ((m : Timer) → soonest ts ≡ Some m → P m) → (o : Option Timer) → soonest ts ≡ o → P (sooner t o)
+    by_rest more None q = all 0 t refl
+    by_rest more (Some m) q = by_sooner m (is_sooner m t) (more m q)
+
+soonest_near : (offset : ℤ) (ts : List Timer) → ((i : ℕ) (t : Timer) → slice_get ts i ≡ Some t → (pos t.deadline -ℤ offset) <ℤ pos (2 ^ 64)) → (o : Option Timer) → soonest ts ≡ o → IfSome (option_map (λ (t : Timer). pos t.deadline -ℤ offset) o) (λ (z : ℤ). z <ℤ pos (2 ^ 64))
+soonest_near offset ts all None e = tt
+soonest_near offset ts all (Some s) e = soonest_has (λ (t : Timer). (pos t.deadline -ℤ offset) <ℤ pos (2 ^ 64)) ts s all e
+
+due_below : (clock : ℕ) (offset z : ℤ) (d : ℕ) → pos clock +ℤ offset ≡ z → pos 0 ≤ℤ z → d < above_zero z + 2 ^ 32 → clock < 2 ^ 63 → (pos d -ℤ offset) <ℤ pos (2 ^ 64)
+due_below clock offset (pos m) d e h n k = omega (arith, ints, e, n, k)
+due_below clock offset (negsuc m) d e h n k = absurd (omega (arith, ints, h))
+
+near_by : (c clock : ℕ) (x : Block) (w : Whereabouts) → IsInHand c clock (record x { whereabouts = w }) → IfSome (due_in (record x { whereabouts = w })) (λ (z : ℤ). z <ℤ pos (2 ^ 64))
+near_by c clock x (rest kept) h = absurd h.here
+near_by c clock x (on d offset v) h =
+    let timely = h.timed.timely in
+    soonest_near offset x.control.parts.timers (λ i t e. due_below clock offset (pos clock +ℤ offset) t.deadline refl timely.from_zero (h.near i t e) timely.clock) (soonest x.control.parts.timers) refl
+
+pub near_of : (c clock : ℕ) (x : Block) → IsInHand c clock x → IfSome (due_in x) (λ (z : ℤ). z <ℤ pos (2 ^ 64))
+near_of c clock x h = near_by c clock x x.whereabouts h
+
+module _ (seen : ℕ → Option Block) where
+  abbrev dues : List ℕ → List ℕ
+  dues bs = flat_map (λ (l : Looked). due_clocks l.found) (map (look seen) bs)
+
+  -- the first due of the blocks before a place
+  abbrev pub due_before : ℕ → List Member → Option ℕ
+  due_before i share = least (dues (take i (share_blocks share)))
+
+  pub due_more : (share : List Member) (i b : ℕ) (x : Block) → slice_get (share_blocks share) i ≡ Some b → seen b ≡ Some x → IsHeld x → due_before (i + 1) share ≡ earlier (due_before i share) (option_map above_zero (due_in x))
+  due_more share i b x at there held =
+      let bs = share_blocks share in
+      let more : take (i + 1) bs ≡ take i bs ++ b ∷ [] = take_more bs i b (slice_get_within bs i b at) ∙ ap (λ n. take i bs ++ n ∷ []) (get_or_from_slice_get bs i b b at) in
+      let both : dues (take i bs ++ b ∷ []) ≡ dues (take i bs) ++ dues (b ∷ []) = ap (flat_map (λ (l : Looked). due_clocks l.found)) (map-append (look seen) (take i bs) (b ∷ [])) ∙ flat_map-append (λ (l : Looked). due_clocks l.found) (map (look seen) (take i bs)) (map (look seen) (b ∷ [])) in
+      let one : least (dues (b ∷ [])) ≡ option_map above_zero (due_in x) = ap least (flat_map-cons (λ (l : Looked). due_clocks l.found) (look seen b) []) ∙ (least-append (due_clocks (seen b)) [] ∙ (ap (λ o. least (due_clocks o)) there ∙ due_of x held)) in
+      ap (λ bs. least (dues bs)) more ∙ (ap least both ∙ (least-append (dues (take i bs)) (dues (b ∷ [])) ∙ ap (earlier (due_before i share)) one))
+
+  pub due_all : (share : List Member) (i : ℕ) → length share ≤ i → due_before i share ≡ next_due (map (look seen) (share_blocks share))
+  due_all share i h = ap (λ bs. least (dues bs)) (take_all i (share_blocks share) (let n = length-map share (λ (m : Member). m.block) in omega (arith, n, h)))
