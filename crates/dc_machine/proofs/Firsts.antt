@@ -14,6 +14,7 @@ use Rattle.dc_base.specs.Steps.{can_run, is_runnable}
 use Rattle.dc_base.specs.Turns.{Looked}
 use Rattle.dc_sound.proofs.Elements.{same_is}
 use Rattle.dc_machine.specs.InHand.{AreInHand, IsInHand, looked_in}
+use Rattle.dc_machine.specs.Nexts.{first_runnable}
 
 abbrev pub look : (ℕ → Option Block) → ℕ → Looked
 look seen b = record { number = b; found = seen b }
@@ -76,3 +77,38 @@ seen_some o x r e h = sym h ∙ ap option_copied e
 
 pub seen_none : {T : Type 0} (o : Option (Bor T)) (r : Option T) → o ≡ None → option_copied o ≡ r → r ≡ None
 seen_none o r e h = sym h ∙ ap option_copied e
+
+-- the first that can run is one of the share
+module _ (seen : ℕ → Option Block) (p : Looked → Bool) where
+  one_of : (m : Member) (ms : List Member) (l : Looked) → (find p (map (look seen) (share_blocks ms)) ≡ Some l → (l ≡ look seen l.number) × (has ms l.number ≡ true)) → (t : Bool) → cond t (Some (look seen m.block)) (find p (map (look seen) (share_blocks ms))) ≡ Some l → (l ≡ look seen l.number) × (has (m ∷ ms) l.number ≡ true)
+  one_of m ms l more true e =
+      let same : look seen m.block ≡ l = same_Some (look seen m.block) l e in
+      subst (λ (l : Looked). (l ≡ look seen l.number) × (has (m ∷ ms) l.number ≡ true)) same (refl, ap (λ t. t || has ms m.block) (same_is m.block))
+  one_of m ms l more false e =
+      let r = more e in
+      (r.0, ap (λ t. (m.block == l.number) || t) r.1 ∙ or-true (m.block == l.number))
+
+  pub found_one : (share : List Member) (l : Looked) → find p (map (look seen) (share_blocks share)) ≡ Some l → (l ≡ look seen l.number) × (has share l.number ≡ true)
+  found_one [] l e = absurd (none-some l e)
+  found_one (m ∷ ms) l e = one_of m ms l (λ q. found_one ms l q) (p (look seen m.block)) e
+
+pub number_found : (o : Option Looked) (n : ℕ) → Some n ≡ option_map (λ (l : Looked). l.number) o → (l : Looked) × (o ≡ Some l) × (l.number ≡ n)
+number_found None n e = absurd (none-some n (sym e))
+number_found (Some l) n e = (l, refl, sym (same_Some n l.number e))
+
+pub no_number_found : (o : Option Looked) → None ≡ option_map (λ (l : Looked). l.number) o → o ≡ None
+no_number_found None e = refl
+no_number_found (Some l) e = absurd (none-some l.number e)
+
+-- the first that can run, by its number
+pub first_is : (c : ℕ) (k : Core) (seen : ℕ → Option Block) → AreInHand c k seen → (o : Option BlockNo) (b : BlockNo) → o ≡ Some b → option_map (λ (n : BlockNo). n.0) o ≡ option_map (λ (l : Looked). l.number) (first_runnable k (looked_in seen k.share)) →
+    (has k.share b.0 ≡ true) × (first_runnable k (looked_in seen k.share) ≡ Some (look seen b.0))
+first_is c k seen hand o b e h =
+    let l = number_found (first_runnable k (looked_in seen k.share)) b.0 (sym (number_at o b _ e h)) in
+    let f = found_one seen (is_runnable k.clock) k.share l.0 l.1 in
+    (subst (λ n. has k.share n ≡ true) l.2 f.1, l.1 ∙ ap (λ (x : Looked). Some x) (f.0 ∙ ap (look seen) l.2))
+
+pub hand_of : (c : ℕ) (k : Core) (seen : ℕ → Option Block) → AreInHand c k seen → (b : ℕ) → has k.share b ≡ true → (x : Block) → seen b ≡ Some x → IsInHand c k.clock x
+hand_of c k seen hand b listed x e =
+    let h = hand b listed in
+    subst (IsInHand c k.clock) (same_Some h.0 x (sym h.1 ∙ e)) h.2
