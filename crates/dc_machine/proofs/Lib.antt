@@ -2,3 +2,5 @@ pub mod Dues
 pub mod Firsts
 pub mod InHands
 pub mod Lifting
+pub mod Needs
+pub mod Slicing
