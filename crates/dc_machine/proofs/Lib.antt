@@ -3,4 +3,5 @@ pub mod Firsts
 pub mod InHands
 pub mod Lifting
 pub mod Needs
+pub mod Putting
 pub mod Slicing

@@ -1,25 +1,16 @@
-use Rattle.std.proofs.Common.{rules, ◌≡◌, ℕ, ◌+◌, ◌-◌, ◌*◌, ◌<◌, ◌≤◌, length, ◌/◌, ◌%◌, Bool, true, false, nat_eq, nat_lt, List, [], ◌∷◌, ◌++◌, slice_index_or, slice_set, bit_and, bit_or, w8, w32, w64, Bor, MutBor}
-use Rattle.dc_base.specs.Changes.{apply}
-use Rattle.dc_base.specs.States.{State}
-use Rattle.dc_base.specs.Steps.{outside_change}
-use Rattle.dc_kernel.specs.Outsides.{Fits, outside_seen}
-use Rattle.dc_kernel.specs.Turned.{look_in}
-use Rattle.dc_objects.specs.States.{state_of}
-use Rattle.dc_machine.specs.Lifts.{AreOutside, HasNeeded, IsLifted, KeepsRest, SameKind}
+-- The objects outside blocks stand as after the change.
+use Rattle.std.proofs.Common.{refl}
+use Rattle.dc_machine.proofs.Putting.{put_nothing, put_console, put_channel, put_line}
 use Rattle.dc_machine.proofs.outsides.put_outside.Goals as goal
 
--- src/outsides.rt:40:1
 pub returns-in-Nothing-clause-outside : goal.returns-in-Nothing-clause-outside
-returns-in-Nothing-clause-outside g c = ?
+returns-in-Nothing-clause-outside g c s h same = put_nothing s c.args.objects.now c.args.b.0 c.args.need c.args.outside c.in-Nothing.is c.requires.kind h same
 
--- src/outsides.rt:40:1
 pub returns-in-Console-clause-outside : goal.returns-in-Console-clause-outside
-returns-in-Console-clause-outside g c = ?
+returns-in-Console-clause-outside g c s h same = put_console s c.args.objects.now c.args.b.0 _ c.args.need c.args.outside c.in-Console.console c.in-Console.is c.requires.kind h c.put_down.ensures refl refl
 
--- src/outsides.rt:40:1
 pub returns-in-Channel-need-clause-outside : goal.returns-in-Channel-need-clause-outside
-returns-in-Channel-need-clause-outside g c = ?
+returns-in-Channel-need-clause-outside g c s h same = put_channel s c.args.objects.now c.args.b.0 _ c.args.need c.args.outside c.in-Channel-need.x c.in-Channel.channel c.in-Channel.is c.in-Channel-need.is h c.put_down-in-Channel-need.ensures refl refl
 
--- src/outsides.rt:40:1
 pub returns-in-Line-need-clause-outside : goal.returns-in-Line-need-clause-outside
-returns-in-Line-need-clause-outside g c = ?
+returns-in-Line-need-clause-outside g c s h same = put_line s c.args.objects.now c.args.b.0 _ c.args.need c.args.outside c.in-Line-need.l c.in-Line.line c.in-Line.is c.in-Line-need.is h same c.put_down-in-Line-need.ensures refl refl
