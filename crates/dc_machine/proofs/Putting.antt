@@ -69,10 +69,10 @@ module _ {D : Type 0} (s : State) (o : Objects D) (b : ℕ) where
         subst (λ (out : Outside). AreOutside (apply s (outside_change b n (outside_seen out))) t) (sym q)
         (subst (λ (n : Need). AreOutside (apply s (outside_change b n (channel_outside r))) t) (sym p) (channel_put x r (subst (IsLifted s o b) p h) put e f))
 
-    line_by : (l : LineNo) (w v : Wire) → LacksLine s o l.0 → ((whole : List Wire) → o.lines.items ≡ lifted whole l.0 → l.0 < length whole → t.lines.items ≡ slice_set whole l.0 w) →
+    line_by : (l : LineNo) (w : Wire) → LacksLine s o l.0 → ((whole : List Wire) → o.lines.items ≡ lifted whole l.0 → l.0 < length whole → t.lines.items ≡ slice_set whole l.0 w) →
         t.consoles.items ≡ o.consoles.items → t.channels.items ≡ o.channels.items → AreOutside (apply s (outside_change b (needs.Line l) (line_outside w))) t
     unfolding outside_change
-    line_by l w v h put e f = record { channels = f ∙ h.channels; lines = put s.lines h.lines h.within; consoles = e ∙ h.consoles }
+    line_by l w h put e f = record { channels = f ∙ h.channels; lines = put s.lines h.lines h.within; consoles = e ∙ h.consoles }
 
     lacks_line : (l : LineNo) (w : Wire) (a : Option Wire) → slice_get s.lines l.0 ≡ a → SameKind (as_line a) (line_outside w) → (u : Bool) → nat_lt l.0 (length s.lines) ≡ u → LacksLineIf u s o l.0 → LacksLine s o l.0
     lacks_line l w None q same u g h = absurd same
@@ -88,4 +88,19 @@ module _ {D : Type 0} (s : State) (o : Objects D) (b : ℕ) where
         let kind = subst (λ (n : Need). SameKind (look_in s b n) (line_outside w)) p (subst (λ (out : Outside). SameKind (look_in s b n) (outside_seen out)) q same) in
         subst (λ (out : Outside). AreOutside (apply s (outside_change b n (outside_seen out))) t) (sym q)
         (subst (λ (n : Need). AreOutside (apply s (outside_change b n (line_outside w))) t) (sym p)
-        (line_by l w w (lacks_line l w (slice_get s.lines l.0) refl kind (nat_lt l.0 (length s.lines)) refl (subst (IsLifted s o b) p h)) put e f))
+        (line_by l w (lacks_line l w (slice_get s.lines l.0) refl kind (nat_lt l.0 (length s.lines)) refl (subst (IsLifted s o b) p h)) put e f))
+
+-- the object is lifted out of objects of which others change
+module _ {D : Type 0} (s : State) (o u : Objects D) (e : u.channels ≡ o.channels) (f : u.lines ≡ o.lines) (g : u.consoles ≡ o.consoles) where
+  outside_same : AreOutside s o → AreOutside s u
+  outside_same h = record { channels = rw e h.channels; lines = rw f h.lines; consoles = rw g h.consoles }
+
+  line_same : (l : ℕ) (t : Bool) → LacksLineIf t s o l → LacksLineIf t s u l
+  line_same l true h = record { channels = rw e h.channels; lines = rw f h.lines; consoles = rw g h.consoles; within = h.within; room = rw f h.room }
+  line_same l false h = outside_same h
+
+  pub lifted_same : (b : ℕ) (n : Need) → IsLifted s o b n → IsLifted s u b n
+  lifted_same b needs.Nothing h = outside_same h
+  lifted_same b needs.Console h = record { channels = rw e h.channels; lines = rw f h.lines; consoles = rw g h.consoles; within = h.within; room = rw g h.room }
+  lifted_same b (needs.Channel x) h = record { channels = rw e h.channels; lines = rw f h.lines; consoles = rw g h.consoles; within = h.within; room = rw e h.room }
+  lifted_same b (needs.Line l) h = line_same l.0 (nat_lt l.0 (length s.lines)) h

@@ -1,8 +1,8 @@
 -- A slice, with the object that its call needs lifted out, is the slice of the core's turn.
-use Rattle.std.proofs.Common.{◌≡◌, ℕ, ◌+◌, ◌<◌, List, [], ◌∷◌, Option, Some, None, refl, sym, ap, ◌∙◌, subst, arith, length}
+use Rattle.std.proofs.Common.{◌≡◌, ℕ, ◌+◌, ◌<◌, List, [], ◌∷◌, Option, Some, None, refl, sym, ap, ◌∙◌, subst, arith, length, get_or}
 use Rattle.std.specs.Prelude.{slice_get, slice_set, ◌-◌, ◌^◌}
 use Rattle.std.specs.Option.{option_map}
-use Rattle.std.proofs.lemmas.Option.{none-some, same_Some}
+use Rattle.std.proofs.lemmas.Option.{none-some, same_Some, get_or_from_slice_get, slice_get_within}
 use Rattle.dc_base.specs.declared.actions.Actor.TheVariants as actor
 use Rattle.dc_base.specs.declared.calls.Need.{Need}
 use Rattle.dc_base.specs.declared.calls.Need.TheVariants as needs
@@ -24,18 +24,20 @@ use Rattle.dc_base.specs.States.{State, Core, Block, Mailbox, Script, Whereabout
 use Rattle.dc_base.specs.Steps.{as_console, as_channel, as_line, core_after_slice, outside_change, slice_turn}
 use Rattle.dc_base.specs.Turns.{outcome}
 use Rattle.dc_base.specs.Words.{bind}
+use Rattle.dc_kernel.specs.declared.drivers.Forward.{Forward}
 use Rattle.dc_kernel.specs.declared.drivers.Sliced.{Sliced}
 use Rattle.dc_kernel.specs.declared.outsides.Outside.{Outside as Held}
 use Rattle.dc_kernel.specs.declared.outsides.Outside.TheVariants as held
 use Rattle.dc_kernel.specs.Done.{Done, done, done_by, done_picked, done_empty, told}
-use Rattle.dc_kernel.specs.Forwards.{fired, picked, halfway_in, need_in, number_of}
+use Rattle.dc_kernel.specs.Forwards.{IsForward, fired, picked, halfway_in, need_in, number_of}
 use Rattle.dc_kernel.specs.Outsides.{outside_seen, HasRoom}
 use Rattle.dc_kernel.specs.Running.{Running, on_core, time_in}
 use Rattle.dc_kernel.specs.Turned.{look_in, outcome_by, done_outcome}
 use Rattle.dc_kernel.proofs.SliceTurns.{slice_done}
 use Rattle.dc_objects.specs.Blocks.{running_of}
+use Rattle.dc_objects.specs.declared.whole.Objects.{Objects}
 use Rattle.dc_machine.specs.Answers.{Answers}
-use Rattle.dc_machine.specs.Lifts.{SameKind}
+use Rattle.dc_machine.specs.Lifts.{KeepsRest, SameKind}
 use Rattle.dc_machine.specs.Nexts.{slice_what, what_by}
 use Rattle.dc_machine.specs.declared.turns.Stepped.{Stepped}
 use Rattle.dc_machine.specs.declared.turns.Stepped.TheVariants as stepped
@@ -196,3 +198,50 @@ module _ (s : State) (p : IsSound s) (b : ℕ) where
   has_room n (held.Channel r) e = ring_room r n (look_in s b n) refl e
   has_room n (held.Line w) e = tt
   has_room n (held.Console ws) e = tt
+
+-- an item of a list that is the same
+pub item_is : {A : Type 0} (xs ys : List A) (i : ℕ) (x v : A) → ys ≡ xs → slice_get xs i ≡ Some x → v ≡ get_or ys i v → v ≡ x
+item_is {A} xs ys i x v q at e = e ∙ (ap (λ (zs : List A). get_or zs i v) q ∙ get_or_from_slice_get xs i x v at)
+
+pub item_within : {A : Type 0} (xs ys : List A) (i : ℕ) (x : A) → ys ≡ xs → slice_get xs i ≡ Some x → i < length ys
+item_within {A} xs ys i x q at = subst (λ (zs : List A). i < length zs) (sym q) (slice_get_within xs i x at)
+
+-- what a slice did with the object that was lifted out, it does with the one that is looked at
+module _ (s : State) (c : ℕ) (k : Core) (b : ℕ) (n : Need) (o : Outside) (r : Running) (t : Done) (need : n ≡ need_in (halfway_in k.settings.quantum k.clock r)) (looked : o ≡ look_in s b n) (did : Some t ≡ done (λ (m : Need). o) k.settings.quantum c b k.clock r) where
+  pub looked_done : Some t ≡ done (look_in s b) k.settings.quantum c b k.clock r
+  looked_done = did ∙ done_same (λ (m : Need). o) (look_in s b) k.settings.quantum c b k.clock r (looked ∙ ap (look_in s b) need)
+
+  pub kind_kept : SameKind (look_in s b n) t.outside
+  kind_kept = subst (λ (m : Need). SameKind (look_in s b m) t.outside) (sym need) (done_kind (look_in s b) refl k.settings.quantum c b k.clock r t looked_done)
+
+-- the same, of a block and a clock that are equal
+pub did_same : (s : State) (c : ℕ) (k : Core) (b : ℕ) (o : Outside) (x y : Block) (clock : ℕ) (t : Done) → clock ≡ k.clock → y ≡ x → Some t ≡ done (λ (m : Need). o) k.settings.quantum c b clock (running_of y) → Some t ≡ done (λ (m : Need). o) k.settings.quantum c b k.clock (running_of x)
+did_same s c k b o x y clock t e f d = subst (λ (z : Block). Some t ≡ done (λ (m : Need). o) k.settings.quantum c b k.clock (running_of z)) f (subst (λ m. Some t ≡ done (λ (m : Need). o) k.settings.quantum c b m (running_of y)) e d)
+
+pub forward_same : (q : ℕ) (x y : Block) (clock now : ℕ) (f : Forward) → clock ≡ now → y ≡ x → IsForward q now (running_of x) f → IsForward q clock (running_of y) f
+forward_same q x y clock now f e g h = subst (λ (z : Block). IsForward q clock (running_of z) f) (sym g) (subst (λ n. IsForward q n (running_of x) f) (sym e) h)
+
+pub sliced : (s new : State) (c : CoreNo) (k : Core) (b : BlockNo) (x : Block) (n : Need) (control : ControlBlock) (sl : Sliced) (out : Outside) (w : What) (after : ℕ) →
+    slice_get s.blocks b.0 ≡ Some x → IsOn c.0 x.whereabouts → n ≡ need_in (halfway_in k.settings.quantum k.clock (running_of x)) → Some (told control sl out) ≡ done (look_in s b.0) k.settings.quantum c.0 b.0 k.clock (running_of x) → w ≡ slice_what b sl after → after ≡ k.clock + sl.advance →
+    IsAfter s new (slice_set s.cores c.0 (core_after_slice k b.0 after)) (slice_set s.blocks b.0 (with_control control x)) (apply s (outside_change b.0 n out)) → Answers (entry_of c w) s new (outcome s (slice_turn c.0 k b.0 (slice_get s.blocks b.0)))
+sliced s new c k b x n control sl out w after found here need t what clock a =
+    let whole : new ≡ apply s (core_becomes c.0 (core_after_slice k b.0 after) ∷ block_becomes b.0 (with_control control x) ∷ outside_change b.0 n out) = after_is s new (slice_set s.cores c.0 (core_after_slice k b.0 after)) (slice_set s.blocks b.0 (with_control control x)) n out b.0 a in
+    let now = whole ∙ ap (λ m. apply s (core_becomes c.0 (core_after_slice k b.0 m) ∷ block_becomes b.0 (with_control control x) ∷ outside_change b.0 n out)) clock in
+    let main = slice_answers s new c k b x n control sl out (running_of x) (on_core_is c.0 x here) need t now in
+    subst (λ (o : Option Block). Answers (entry_of c w) s new (outcome s (slice_turn c.0 k b.0 o))) (sym found)
+    (subst (λ (w : What). Answers (entry_of c w) s new (outcome s (slice_turn c.0 k b.0 (Some x)))) (sym (what ∙ ap (slice_what b sl) clock)) main)
+
+-- cores, blocks, mailboxes and the script of objects that keep them
+module _ {D : Type 0} (o u : Objects D) (h : KeepsRest o u) where
+  pub cores_kept : u.cores.items ≡ o.cores.items
+  cores_kept = let e = h.cores in cc
+
+  pub blocks_kept : u.blocks.items ≡ o.blocks.items
+  blocks_kept = let e = h.blocks in cc
+
+  pub mailboxes_kept : u.mailboxes.items ≡ o.mailboxes.items
+  mailboxes_kept = let e = h.mailboxes in cc
+
+-- the facts of the core that a condition names
+pub of_core : (P : Core → Type 0) (cs : List Core) (c : ℕ) (k m : Core) → slice_get cs c ≡ Some k → slice_get cs c ≡ Some m → P k → P m
+of_core P cs c k m e f h = subst P (same_Some k m (sym e ∙ f)) h
