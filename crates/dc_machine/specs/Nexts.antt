@@ -9,6 +9,7 @@ use Rattle.dc_base.specs.declared.numbers.DispNo.{DispNo}
 use Rattle.dc_base.specs.States.{Core, Block}
 use Rattle.dc_base.specs.Steps.{is_runnable, next_due}
 use Rattle.dc_base.specs.Turns.{Looked}
+use Rattle.dc_base.specs.Words.{lesser}
 use Rattle.dc_kernel.specs.declared.drivers.Sliced.{Sliced}
 use Rattle.dc_kernel.specs.Forwards.{IsForward}
 use Rattle.dc_objects.specs.Blocks.{running_of}
@@ -16,6 +17,11 @@ use Rattle.dc_machine.specs.declared.steps.Next.{Next}
 use Rattle.dc_machine.specs.declared.steps.Next.TheVariants as next
 use Rattle.dc_machine.specs.declared.turns.Stepped.{Stepped}
 use Rattle.dc_machine.specs.declared.turns.Stepped.TheVariants as stepped
+
+-- the least of two clocks, where there are any
+abbrev pub earlier : Option ℕ → Option ℕ → Option ℕ
+earlier o None = o
+earlier o (Some n) = Some (lesser n o)
 
 abbrev pub stopped_at : Option Version → Option Stepped
 stopped_at None = Some (stepped.NotEnabled reason.CoreOff)

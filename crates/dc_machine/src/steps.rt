@@ -1,6 +1,6 @@
 //! Step: a slice of the first runnable block, or idle until the first timer is due.
 
-ghost use Rattle.std.specs.Prelude.{◌≡◌, ℕ, ◌<◌, Some, true, slice_get, length};
+ghost use Rattle.std.specs.Prelude.{◌≡◌, ℕ, ◌<◌, ◌^◌, Some, true, slice_get, length, IfSome, ℤ, pos, ◌<ℤ◌};
 ghost use Rattle.std.specs.Option.{option_map};
 ghost use Rattle.dc_base.specs.declared.actions.Actor.TheVariants as actor;
 ghost use Rattle.dc_base.specs.declared.actions.Action.TheVariants as action;
@@ -11,12 +11,13 @@ ghost use Rattle.dc_base.specs.Sound.{IsSound};
 ghost use Rattle.dc_base.specs.States.{Core, Block};
 ghost use Rattle.dc_base.specs.Steps.{next_due, idle_outcome, slice_turn};
 ghost use Rattle.dc_base.specs.Turns.{Looked, outcome};
+ghost use Rattle.dc_base.specs.Words.{above_zero};
 ghost use Rattle.dc_kernel.specs.Forwards.{IsForward, IsQuantum};
 ghost use Rattle.dc_objects.specs.Blocks.{running_of};
 ghost use Rattle.dc_objects.specs.States.{state_of};
 ghost use Rattle.dc_machine.specs.Answers.{Answers, IsQuiet};
 ghost use Rattle.dc_machine.specs.InHand.{AreInHand, looked_in};
-ghost use Rattle.dc_machine.specs.Nexts.{stopped, first_runnable, IsNext, slice_what};
+ghost use Rattle.dc_machine.specs.Nexts.{earlier, stopped, first_runnable, IsNext, slice_what};
 
 use crate::blocks::Blocks;
 use crate::outsides::{put_outside, take_outside};
@@ -66,16 +67,30 @@ fn first_runnable<D: Driver, B: Blocks<D>>(core: &CoreState, blocks: &B) -> Opti
     None
 }
 
-/// The least of two clocks.
-fn sooner(least: Option<u64>, due: Option<i128>) -> Option<u64> {
+/// The least of two clocks; a due below 0 counts as 0.
+fn sooner(least: Option<u64>, due: Option<i128>) -> Option<u64>
+    requires { IfSome due (λ (z : ℤ). z <ℤ pos (2 ^ 64)) }
+    ensures { result ≡ earlier least (option_map above_zero due) }
+{
     let Some(due) = due else {
         return least;
     };
-    let due = if due < 0 { 0 } else { due as u64 };
+    let clock = clock_from(due);
     match least {
-        Some(first) => Some(first.min(due)),
-        None => Some(due),
+        Some(first) => Some(first.min(clock)),
+        None => Some(clock),
     }
+}
+
+/// A clock, not below 0.
+fn clock_from(due: i128) -> u64
+    requires { due <ℤ pos (2 ^ 64) }
+    ensures { result ≡ above_zero due }
+{
+    if due < 0 {
+        return 0;
+    }
+    due as u64
 }
 
 /// The core's clock at which the first timer of the share is due.

@@ -1,0 +1,247 @@
+-- A slice, with the object that its call needs lifted out, is the slice of the core's turn.
+use Rattle.std.proofs.Common.{◌≡◌, ℕ, ◌+◌, ◌<◌, List, [], ◌∷◌, Option, Some, None, refl, sym, ap, ◌∙◌, subst, arith, length, get_or}
+use Rattle.std.specs.Prelude.{slice_get, slice_set, ◌-◌, ◌^◌}
+use Rattle.std.specs.Option.{option_map}
+use Rattle.std.proofs.lemmas.Option.{none-some, same_Some, get_or_from_slice_get, slice_get_within}
+use Rattle.dc_base.specs.declared.actions.Actor.TheVariants as actor
+use Rattle.dc_base.specs.declared.calls.Need.{Need}
+use Rattle.dc_base.specs.declared.calls.Need.TheVariants as needs
+use Rattle.dc_base.specs.declared.entries.Entry.{Entry}
+use Rattle.dc_base.specs.declared.entries.What.{What}
+use Rattle.dc_base.specs.declared.kernels.Version.{Version}
+use Rattle.dc_base.specs.declared.numbers.BlockNo.{BlockNo}
+use Rattle.dc_base.specs.declared.numbers.CoreNo.{CoreNo}
+use Rattle.dc_base.specs.declared.numbers.DispNo.{DispNo}
+use Rattle.dc_base.specs.Changes.{Change, core_becomes, block_becomes, apply}
+use Rattle.dc_base.specs.Channels.{Ring}
+use Rattle.dc_base.specs.ControlBlocks.{ControlBlock}
+use Rattle.dc_base.specs.Lines.{Wire}
+use Rattle.dc_base.specs.Placed.{IsOn}
+use Rattle.dc_base.specs.Serving.{Outside, nothing_outside, console_outside, channel_outside, line_outside}
+use Rattle.dc_base.specs.Slices.{Halfway, halfway, need_of, slice_of, slice_end, without_ready}
+use Rattle.dc_base.specs.Sound.{IsSound}
+use Rattle.dc_base.specs.States.{State, Core, Block, Mailbox, Script, Whereabouts, rest, on, with_control}
+use Rattle.dc_base.specs.Steps.{as_console, as_channel, as_line, core_after_slice, outside_change, slice_turn}
+use Rattle.dc_base.specs.Turns.{outcome}
+use Rattle.dc_base.specs.Words.{bind}
+use Rattle.dc_kernel.specs.declared.drivers.Forward.{Forward}
+use Rattle.dc_kernel.specs.declared.drivers.Sliced.{Sliced}
+use Rattle.dc_kernel.specs.declared.outsides.Outside.{Outside as Held}
+use Rattle.dc_kernel.specs.declared.outsides.Outside.TheVariants as held
+use Rattle.dc_kernel.specs.Done.{Done, done, done_by, done_picked, done_empty, told}
+use Rattle.dc_kernel.specs.Forwards.{IsForward, fired, picked, halfway_in, need_in, number_of}
+use Rattle.dc_kernel.specs.Outsides.{outside_seen, HasRoom}
+use Rattle.dc_kernel.specs.Running.{Running, on_core, time_in}
+use Rattle.dc_kernel.specs.Turned.{look_in, outcome_by, done_outcome}
+use Rattle.dc_kernel.proofs.SliceTurns.{slice_done}
+use Rattle.dc_objects.specs.Blocks.{running_of}
+use Rattle.dc_objects.specs.declared.whole.Objects.{Objects}
+use Rattle.dc_machine.specs.Answers.{Answers}
+use Rattle.dc_machine.specs.Lifts.{KeepsRest, SameKind}
+use Rattle.dc_machine.specs.Nexts.{slice_what, what_by}
+use Rattle.dc_machine.specs.declared.turns.Stepped.{Stepped}
+use Rattle.dc_machine.specs.declared.turns.Stepped.TheVariants as stepped
+use Rattle.dc_machine.proofs.InHands.{budget_most}
+use Rattle.dc_machine.proofs.Needs.{end_kind}
+
+-- a block on a core, as its kernel has it
+
+on_by : (c : ℕ) (x : Block) (w : Whereabouts) → IsOn c w → record x { whereabouts = w } ≡ on_core c (running_of (record x { whereabouts = w }))
+on_by c x (rest kept) h = absurd h
+on_by c x (on d offset v) h = ap (λ n. record x { whereabouts = on n offset v }) h
+
+pub on_core_is : (c : ℕ) (x : Block) → IsOn c x.whereabouts → x ≡ on_core c (running_of x)
+on_core_is c x h = on_by c x x.whereabouts h
+
+-- what is looked at, but for the object that is needed, is no matter
+module _ (look look' : Need → Outside) (q c n now : ℕ) (r : Running) where
+  ended_same : (v : Version) (d : ℕ) (o : Option Halfway) → look (need_in o) ≡ look' (need_in o) → option_map (λ h. slice_end c n v d h (look (need_of h))) o ≡ option_map (λ h. slice_end c n v d h (look' (need_of h))) o
+  ended_same v d None e = refl
+  ended_same v d (Some h) e = ap (λ out. Some (slice_end c n v d h out)) e
+
+  picked_same : (o : Option ℕ) → look (need_in (bind o (λ d. halfway q (time_in now r) (without_ready d (fired now r).control) d))) ≡ look' (need_in (bind o (λ d. halfway q (time_in now r) (without_ready d (fired now r).control) d))) →
+      done_picked look q c n now r (fired now r) o ≡ done_picked look' q c n now r (fired now r) o
+  unfolding slice_of
+  picked_same None e = refl
+  picked_same (Some d) e = ap (option_map (done_by d (fired now r).count)) (ended_same r.version d (halfway q (time_in now r) (without_ready d (fired now r).control) d) e)
+
+  pub done_same : look (need_in (halfway_in q now r)) ≡ look' (need_in (halfway_in q now r)) → done look q c n now r ≡ done look' q c n now r
+  unfolding done
+  done_same e = picked_same (picked now r) e
+
+-- what a slice leaves outside
+module _ (look : Need → Outside) (none : look needs.Nothing ≡ nothing_outside) (q c n now : ℕ) (r : Running) where
+  abbrev half : Option ℕ → Option Halfway
+  half o = bind o (λ d. halfway q (time_in now r) (without_ready d (fired now r).control) d)
+
+  ended_kind : (v : Version) (d count : ℕ) (o : Option Halfway) (t : Done) → Some t ≡ option_map (done_by d count) (option_map (λ h. slice_end c n v d h (look (need_of h))) o) → SameKind (look (need_in o)) t.outside × (t.disp ≡ Some d)
+  ended_kind v d count None t e = absurd (none-some t (sym e))
+  ended_kind v d count (Some h) t e =
+      let same = same_Some t (done_by d count (slice_end c n v d h (look (need_of h)))) e in
+      (subst (λ (t : Done). SameKind (look (need_of h)) t.outside) (sym same) (end_kind c n v d h (look (need_of h)) (λ f. ap look f ∙ none)), ap (λ (t : Done). t.disp) same)
+
+  kind_picked : (o : Option ℕ) (t : Done) → Some t ≡ done_picked look q c n now r (fired now r) o → SameKind (look (need_in (half o))) t.outside
+  unfolding slice_of
+  kind_picked None t e =
+      let same = same_Some t (done_empty (fired now r)) e in
+      subst (λ (t : Done). SameKind (look needs.Nothing) t.outside) (sym same) (subst (λ (o : Outside). SameKind o nothing_outside) (sym none) tt)
+  kind_picked (Some d) t e = (ended_kind r.version d (fired now r).count (half (Some d)) t e).0
+
+  pub done_kind : (t : Done) → Some t ≡ done look q c n now r → SameKind (look (need_in (halfway_in q now r))) t.outside
+  unfolding done
+  done_kind t e = kind_picked (picked now r) t e
+
+  free_picked : (o : Option ℕ) (t : Done) → Some t ≡ done_picked look q c n now r (fired now r) o → t.disp ≡ None → need_in (half o) ≡ needs.Nothing
+  unfolding slice_of
+  free_picked None t e h = refl
+  free_picked (Some d) t e h = absurd (none-some d (sym h ∙ (ended_kind r.version d (fired now r).count (half (Some d)) t e).1))
+
+  -- where no dispatcher ran, nothing was needed
+  pub done_free : (t : Done) → Some t ≡ done look q c n now r → t.disp ≡ None → need_in (halfway_in q now r) ≡ needs.Nothing
+  unfolding done
+  done_free t e h = free_picked (picked now r) t e h
+
+-- nothing changes where nothing is needed
+no_change : (b : ℕ) (n : Need) (out : Outside) → n ≡ needs.Nothing → outside_change b n out ≡ []
+unfolding outside_change
+no_change b n out e = subst (λ (m : Need). outside_change b m out ≡ []) (sym e) refl
+
+-- the answer of a slice
+
+abbrev entry_of : CoreNo → What → Stepped
+entry_of c w = stepped.Did (record { actor = actor.Core c; what = w })
+
+module _ (s new : State) (c : CoreNo) (k : Core) (b : BlockNo) (x : Block) (n : Need) (control : ControlBlock) (sl : Sliced) (out : Outside) where
+  abbrev changes : List Change
+  changes = core_becomes c.0 (core_after_slice k b.0 (k.clock + sl.advance)) ∷ block_becomes b.0 (with_control control x) ∷ outside_change b.0 n out
+
+  answer_by : (o : Option DispNo) → (o ≡ None → n ≡ needs.Nothing) → new ≡ apply s changes → Answers (entry_of c (what_by b sl (k.clock + sl.advance) o)) s new (outcome_by c.0 k b.0 x n (told control sl out) (number_of o))
+  answer_by None free e = (refl, e ∙ ap (λ more. apply s (core_becomes c.0 (core_after_slice k b.0 (k.clock + sl.advance)) ∷ block_becomes b.0 (with_control control x) ∷ more)) (no_change b.0 n out (free refl)))
+  answer_by (Some d) free e = (refl, e)
+
+  pub slice_answers : (r : Running) → x ≡ on_core c.0 r → n ≡ need_in (halfway_in k.settings.quantum k.clock r) → Some (told control sl out) ≡ done (look_in s b.0) k.settings.quantum c.0 b.0 k.clock r → new ≡ apply s changes →
+      Answers (entry_of c (slice_what b sl (k.clock + sl.advance))) s new (outcome s (slice_turn c.0 k b.0 (Some x)))
+  slice_answers r is need t e =
+      let free : sl.disp ≡ None → n ≡ needs.Nothing = λ h. need ∙ done_free (look_in s b.0) refl k.settings.quantum c.0 b.0 k.clock r (told control sl out) t (ap number_of h) in
+      let turn : outcome s (slice_turn c.0 k b.0 (Some x)) ≡ outcome_by c.0 k b.0 x n (told control sl out) (number_of sl.disp) =
+          ap (λ (y : Block). outcome s (slice_turn c.0 k b.0 (Some y))) is ∙ (slice_done s c.0 k b.0 r ∙ (ap (λ o. done_outcome c.0 k b.0 (on_core c.0 r) (need_in (halfway_in k.settings.quantum k.clock r)) o) (sym t)
+          ∙ (ap (λ (m : Need). outcome_by c.0 k b.0 (on_core c.0 r) m (told control sl out) (number_of sl.disp)) (sym need) ∙ ap (λ (y : Block). outcome_by c.0 k b.0 y n (told control sl out) (number_of sl.disp)) (sym is)))) in
+      subst (Answers (entry_of c (slice_what b sl (k.clock + sl.advance))) s new) (sym turn) (answer_by sl.disp free e)
+
+-- the whole state afterwards
+
+abbrev whole : List Core → List Block → List Ring → List Wire → List Mailbox → List (List ℕ) → Script → State
+whole cores blocks channels lines mailboxes consoles script = record { cores = cores; blocks = blocks; channels = channels; lines = lines; mailboxes = mailboxes; consoles = consoles; script = script }
+
+same_whole : (c d : List Core) (b x : List Block) (r q : List Ring) (w l : List Wire) (m n : List Mailbox) (o p : List (List ℕ)) (t u : Script) → c ≡ d → b ≡ x → r ≡ q → w ≡ l → m ≡ n → o ≡ p → t ≡ u → whole c b r w m o t ≡ whole d x q l n p u
+same_whole c d b x r q w l m n o p t u i j k e f g h = rw (i, j, k, e, f, g, h)
+
+-- cores and blocks stand so, the objects outside as after the change, and the rest as before
+pub record IsAfter (s t : State) (ks : List Core) (xs : List Block) (u : State) : Type 0 where
+  pub cores : t.cores ≡ ks
+  pub blocks : t.blocks ≡ xs
+  pub channels : t.channels ≡ u.channels
+  pub lines : t.lines ≡ u.lines
+  pub consoles : t.consoles ≡ u.consoles
+  pub mailboxes : t.mailboxes ≡ s.mailboxes
+  pub script : t.script ≡ s.script
+
+module _ (s t : State) (cores : List Core) (blocks : List Block) where
+  abbrev Goes : Need → Outside → Type 0
+  Goes n out = (b : ℕ) → IsAfter s t cores blocks (apply s (outside_change b n out)) → t ≡ apply (record s { cores = cores; blocks = blocks }) (outside_change b n out)
+
+  pub after_is : (n : Need) (out : Outside) → Goes n out
+  unfolding outside_change
+  after_is needs.Nothing nothing_outside b a = same_whole _ _ _ _ _ _ _ _ _ _ _ _ _ _ a.cores a.blocks a.channels a.lines a.mailboxes a.consoles a.script
+  after_is needs.Nothing (console_outside ws) b a = same_whole _ _ _ _ _ _ _ _ _ _ _ _ _ _ a.cores a.blocks a.channels a.lines a.mailboxes a.consoles a.script
+  after_is needs.Nothing (channel_outside r) b a = same_whole _ _ _ _ _ _ _ _ _ _ _ _ _ _ a.cores a.blocks a.channels a.lines a.mailboxes a.consoles a.script
+  after_is needs.Nothing (line_outside w) b a = same_whole _ _ _ _ _ _ _ _ _ _ _ _ _ _ a.cores a.blocks a.channels a.lines a.mailboxes a.consoles a.script
+  after_is needs.Console nothing_outside b a = same_whole _ _ _ _ _ _ _ _ _ _ _ _ _ _ a.cores a.blocks a.channels a.lines a.mailboxes a.consoles a.script
+  after_is needs.Console (console_outside ws) b a = same_whole _ _ _ _ _ _ _ _ _ _ _ _ _ _ a.cores a.blocks a.channels a.lines a.mailboxes a.consoles a.script
+  after_is needs.Console (channel_outside r) b a = same_whole _ _ _ _ _ _ _ _ _ _ _ _ _ _ a.cores a.blocks a.channels a.lines a.mailboxes a.consoles a.script
+  after_is needs.Console (line_outside w) b a = same_whole _ _ _ _ _ _ _ _ _ _ _ _ _ _ a.cores a.blocks a.channels a.lines a.mailboxes a.consoles a.script
+  after_is (needs.Channel x) nothing_outside b a = same_whole _ _ _ _ _ _ _ _ _ _ _ _ _ _ a.cores a.blocks a.channels a.lines a.mailboxes a.consoles a.script
+  after_is (needs.Channel x) (console_outside ws) b a = same_whole _ _ _ _ _ _ _ _ _ _ _ _ _ _ a.cores a.blocks a.channels a.lines a.mailboxes a.consoles a.script
+  after_is (needs.Channel x) (channel_outside r) b a = same_whole _ _ _ _ _ _ _ _ _ _ _ _ _ _ a.cores a.blocks a.channels a.lines a.mailboxes a.consoles a.script
+  after_is (needs.Channel x) (line_outside w) b a = same_whole _ _ _ _ _ _ _ _ _ _ _ _ _ _ a.cores a.blocks a.channels a.lines a.mailboxes a.consoles a.script
+  after_is (needs.Line l) nothing_outside b a = same_whole _ _ _ _ _ _ _ _ _ _ _ _ _ _ a.cores a.blocks a.channels a.lines a.mailboxes a.consoles a.script
+  after_is (needs.Line l) (console_outside ws) b a = same_whole _ _ _ _ _ _ _ _ _ _ _ _ _ _ a.cores a.blocks a.channels a.lines a.mailboxes a.consoles a.script
+  after_is (needs.Line l) (channel_outside r) b a = same_whole _ _ _ _ _ _ _ _ _ _ _ _ _ _ a.cores a.blocks a.channels a.lines a.mailboxes a.consoles a.script
+  after_is (needs.Line l) (line_outside w) b a = same_whole _ _ _ _ _ _ _ _ _ _ _ _ _ _ a.cores a.blocks a.channels a.lines a.mailboxes a.consoles a.script
+
+-- a channel of a sound state can count one message more
+module _ (s : State) (p : IsSound s) (b : ℕ) where
+  ring_room : (r : Ring) (n : Need) (o : Outside) → look_in s b n ≡ o → channel_outside r ≡ o → r.sent < 2 ^ 64 - 1
+  ring_room r needs.Nothing o e f = absurd (let q : channel_outside r ≡ nothing_outside = f ∙ sym e in cc)
+  ring_room r needs.Console o e f = by_console (slice_get s.consoles b) (f ∙ sym e)
+    where
+      by_console : (c : Option (List ℕ)) → channel_outside r ≡ as_console c → r.sent < 2 ^ 64 - 1
+      by_console None q = absurd cc
+      by_console (Some ws) q = absurd cc
+  ring_room r (needs.Channel x) o e f = by_channel (slice_get s.channels x.0) refl (f ∙ sym e)
+    where
+      by_channel : (c : Option Ring) → slice_get s.channels x.0 ≡ c → channel_outside r ≡ as_channel c → r.sent < 2 ^ 64 - 1
+      by_channel None g q = absurd cc
+      by_channel (Some r') g q =
+          let same : r ≡ r' = cc in
+          let sent = p.counted.sent x.0 r' g in
+          let most = budget_most s p in
+          subst (λ (r : Ring). r.sent < 2 ^ 64 - 1) (sym same) (omega (arith, sent, most))
+  ring_room r (needs.Line l) o e f = by_line (slice_get s.lines l.0) (f ∙ sym e)
+    where
+      by_line : (c : Option Wire) → channel_outside r ≡ as_line c → r.sent < 2 ^ 64 - 1
+      by_line None q = absurd cc
+      by_line (Some w) q = absurd cc
+
+  pub has_room : (n : Need) (out : Held) → outside_seen out ≡ look_in s b n → HasRoom out
+  has_room n held.Nothing e = tt
+  has_room n (held.Channel r) e = ring_room r n (look_in s b n) refl e
+  has_room n (held.Line w) e = tt
+  has_room n (held.Console ws) e = tt
+
+-- an item of a list that is the same
+pub item_is : {A : Type 0} (xs ys : List A) (i : ℕ) (x v : A) → ys ≡ xs → slice_get xs i ≡ Some x → v ≡ get_or ys i v → v ≡ x
+item_is {A} xs ys i x v q at e = e ∙ (ap (λ (zs : List A). get_or zs i v) q ∙ get_or_from_slice_get xs i x v at)
+
+pub item_within : {A : Type 0} (xs ys : List A) (i : ℕ) (x : A) → ys ≡ xs → slice_get xs i ≡ Some x → i < length ys
+item_within {A} xs ys i x q at = subst (λ (zs : List A). i < length zs) (sym q) (slice_get_within xs i x at)
+
+-- what a slice did with the object that was lifted out, it does with the one that is looked at
+module _ (s : State) (c : ℕ) (k : Core) (b : ℕ) (n : Need) (o : Outside) (r : Running) (t : Done) (need : n ≡ need_in (halfway_in k.settings.quantum k.clock r)) (looked : o ≡ look_in s b n) (did : Some t ≡ done (λ (m : Need). o) k.settings.quantum c b k.clock r) where
+  pub looked_done : Some t ≡ done (look_in s b) k.settings.quantum c b k.clock r
+  looked_done = did ∙ done_same (λ (m : Need). o) (look_in s b) k.settings.quantum c b k.clock r (looked ∙ ap (look_in s b) need)
+
+  pub kind_kept : SameKind (look_in s b n) t.outside
+  kind_kept = subst (λ (m : Need). SameKind (look_in s b m) t.outside) (sym need) (done_kind (look_in s b) refl k.settings.quantum c b k.clock r t looked_done)
+
+-- the same, of a block and a clock that are equal
+pub did_same : (s : State) (c : ℕ) (k : Core) (b : ℕ) (o : Outside) (x y : Block) (clock : ℕ) (t : Done) → clock ≡ k.clock → y ≡ x → Some t ≡ done (λ (m : Need). o) k.settings.quantum c b clock (running_of y) → Some t ≡ done (λ (m : Need). o) k.settings.quantum c b k.clock (running_of x)
+did_same s c k b o x y clock t e f d = subst (λ (z : Block). Some t ≡ done (λ (m : Need). o) k.settings.quantum c b k.clock (running_of z)) f (subst (λ m. Some t ≡ done (λ (m : Need). o) k.settings.quantum c b m (running_of y)) e d)
+
+pub forward_same : (q : ℕ) (x y : Block) (clock now : ℕ) (f : Forward) → clock ≡ now → y ≡ x → IsForward q now (running_of x) f → IsForward q clock (running_of y) f
+forward_same q x y clock now f e g h = subst (λ (z : Block). IsForward q clock (running_of z) f) (sym g) (subst (λ n. IsForward q n (running_of x) f) (sym e) h)
+
+pub sliced : (s new : State) (c : CoreNo) (k : Core) (b : BlockNo) (x : Block) (n : Need) (control : ControlBlock) (sl : Sliced) (out : Outside) (w : What) (after : ℕ) →
+    slice_get s.blocks b.0 ≡ Some x → IsOn c.0 x.whereabouts → n ≡ need_in (halfway_in k.settings.quantum k.clock (running_of x)) → Some (told control sl out) ≡ done (look_in s b.0) k.settings.quantum c.0 b.0 k.clock (running_of x) → w ≡ slice_what b sl after → after ≡ k.clock + sl.advance →
+    IsAfter s new (slice_set s.cores c.0 (core_after_slice k b.0 after)) (slice_set s.blocks b.0 (with_control control x)) (apply s (outside_change b.0 n out)) → Answers (entry_of c w) s new (outcome s (slice_turn c.0 k b.0 (slice_get s.blocks b.0)))
+sliced s new c k b x n control sl out w after found here need t what clock a =
+    let whole : new ≡ apply s (core_becomes c.0 (core_after_slice k b.0 after) ∷ block_becomes b.0 (with_control control x) ∷ outside_change b.0 n out) = after_is s new (slice_set s.cores c.0 (core_after_slice k b.0 after)) (slice_set s.blocks b.0 (with_control control x)) n out b.0 a in
+    let now = whole ∙ ap (λ m. apply s (core_becomes c.0 (core_after_slice k b.0 m) ∷ block_becomes b.0 (with_control control x) ∷ outside_change b.0 n out)) clock in
+    let main = slice_answers s new c k b x n control sl out (running_of x) (on_core_is c.0 x here) need t now in
+    subst (λ (o : Option Block). Answers (entry_of c w) s new (outcome s (slice_turn c.0 k b.0 o))) (sym found)
+    (subst (λ (w : What). Answers (entry_of c w) s new (outcome s (slice_turn c.0 k b.0 (Some x)))) (sym (what ∙ ap (slice_what b sl) clock)) main)
+
+-- cores, blocks, mailboxes and the script of objects that keep them
+module _ {D : Type 0} (o u : Objects D) (h : KeepsRest o u) where
+  pub cores_kept : u.cores.items ≡ o.cores.items
+  cores_kept = let e = h.cores in cc
+
+  pub blocks_kept : u.blocks.items ≡ o.blocks.items
+  blocks_kept = let e = h.blocks in cc
+
+  pub mailboxes_kept : u.mailboxes.items ≡ o.mailboxes.items
+  mailboxes_kept = let e = h.mailboxes in cc
+
+-- the facts of the core that a condition names
+pub of_core : (P : Core → Type 0) (cs : List Core) (c : ℕ) (k m : Core) → slice_get cs c ≡ Some k → slice_get cs c ≡ Some m → P k → P m
+of_core P cs c k m e f h = subst P (same_Some k m (sym e ∙ f)) h
