@@ -15,12 +15,15 @@ latch_or [] (suc s) = refl
 latch_or (o ∷ signals) zero = refl
 latch_or (o ∷ signals) (suc s) = latch_or signals s
 
-module _ (l : ℕ) (signals : List (Option Latch)) (s : ℕ) (within : s < length signals) where
-  pub one_more : is_latch_of l (latch_at signals s) ≡ true → count_by (is_latch_of l) (take (s + 1) signals) ≡ count_by (is_latch_of l) (take s signals) + 1
-  one_more h = count_by_more_yes (is_latch_of l) signals s None within (ap (is_latch_of l) (sym (latch_or signals s)) ∙ h)
+module _ (l : ℕ) (signals : List (Option Latch)) (s : ℕ) (within : s < length signals) (held : Option Latch) (is : held ≡ latch_at signals s) (answer : Bool) (tests : answer ≡ is_latch_of l held) where
+  tested : (t : Bool) → answer ≡ t → is_latch_of l (get_or signals s None) ≡ t
+  tested t h = ap (is_latch_of l) (sym (latch_or signals s)) ∙ (ap (is_latch_of l) (sym is) ∙ (sym tests ∙ h))
 
-  pub no_more : is_latch_of l (latch_at signals s) ≡ false → count_by (is_latch_of l) (take (s + 1) signals) ≡ count_by (is_latch_of l) (take s signals)
-  no_more h = count_by_more_no (is_latch_of l) signals s None within (ap (is_latch_of l) (sym (latch_or signals s)) ∙ h)
+  pub one_more : answer ≡ true → count_by (is_latch_of l) (take (s + 1) signals) ≡ count_by (is_latch_of l) (take s signals) + 1
+  one_more h = count_by_more_yes (is_latch_of l) signals s None within (tested true h)
+
+  pub no_more : answer ≡ false → count_by (is_latch_of l) (take (s + 1) signals) ≡ count_by (is_latch_of l) (take s signals)
+  no_more h = count_by_more_no (is_latch_of l) signals s None within (tested false h)
 
 pub at_most : (l : ℕ) (signals : List (Option Latch)) → count_by (is_latch_of l) signals ≤ length signals
 at_most l signals = count_by-le-length (is_latch_of l) signals

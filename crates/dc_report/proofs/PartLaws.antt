@@ -1,5 +1,5 @@
 -- The lines of a block from one part on, and from the next.
-use Rattle.std.proofs.Common.{◌≡◌, ℕ, zero, suc, ◌+◌, ◌*◌, ◌<◌, ◌≤◌, List, [], ◌∷◌, ◌++◌, Option, Some, None, refl, sym, ap, ◌∙◌, length, drop, map, arith}
+use Rattle.std.proofs.Common.{◌≡◌, ℕ, zero, suc, ◌+◌, ◌<◌, ◌≤◌, List, [], ◌∷◌, ◌++◌, Option, Some, None, refl, sym, ap, ◌∙◌, length, map, arith}
 use Rattle.std.specs.Prelude.{slice_get, slice_index}
 use Rattle.std.specs.Option.{option_map}
 use Rattle.std.proofs.lemmas.Option.{slice_get_past}
@@ -12,12 +12,12 @@ use Rattle.dc_base.specs.Words.{Each, elements}
 use Rattle.dc_base.specs.Capabilities.{Seat, seat_at}
 use Rattle.dc_base.specs.KeptByBlocks.{HasShape, HasCaps}
 use Rattle.dc_base.specs.Ports.{latch_at, latch_of}
-use Rattle.dc_base.specs.Report.{block_no, disp_lines, cap_line, port_lines, signal_lines}
+use Rattle.dc_base.specs.Report.{block_no, disp_lines, cap_line, signal_lines}
 use Rattle.dc_base.specs.States.{Block}
 use Rattle.dc_base.specs.Timers.{in_order}
 use Rattle.dc_isa.specs.declared.dispatchers.Dispatcher.{Dispatcher}
 use Rattle.dc_kcb.specs.Readings.{disp_at}
-use Rattle.dc_report.specs.Remaining.{from, part_lines, signals_from, messages_from, timers_from, caps_from, ready_line, disp_line, seats_from}
+use Rattle.dc_report.specs.Remaining.{from, part_lines, signals_from, messages_from, timers_from, caps_from, ready_line}
 use Rattle.dc_report.specs.declared.places.Part.TheVariants.{Disp, Ready, Cap, Timer as TimerPart, PortMessage, Signal}
 use Rattle.dc_report.proofs.DispParts.{disp_parts, no_disp}
 use Rattle.dc_report.proofs.Drops.{drop_there, drop_over, from_there, from_over, from_passed, within_there, within_passed, within_over}

@@ -1,5 +1,5 @@
 -- The lines of a report from one place on, and from the next.
-use Rattle.std.proofs.Common.{◌≡◌, ℕ, ◌+◌, ◌≤◌, List, [], ◌∷◌, ◌++◌, Some, None, refl, sym, ap, ◌∙◌, length, drop, map, append_assoc, arith}
+use Rattle.std.proofs.Common.{◌≡◌, ℕ, ◌+◌, ◌≤◌, List, [], ◌∷◌, ◌++◌, Some, None, sym, ap, ◌∙◌, length, map, append_assoc, arith}
 use Rattle.std.specs.Prelude.{slice_get}
 use Rattle.dc_base.specs.declared.messages.Message.{Message}
 use Rattle.dc_base.specs.declared.reports.ReportLine.{ReportLine}
@@ -8,11 +8,11 @@ use Rattle.dc_base.specs.Words.{elements}
 use Rattle.dc_base.specs.Capabilities.{Seat}
 use Rattle.dc_base.specs.Channels.{Ring}
 use Rattle.dc_base.specs.Lines.{Wire}
-use Rattle.dc_base.specs.Report.{block_no, core_line, core_lines, disp_lines, cap_line, port_lines, signal_lines, block_lines, channel_lines, offer_lines, line_lines, out_lines, report_lines}
+use Rattle.dc_base.specs.Report.{block_no, core_line, core_lines, disp_lines, cap_line, port_lines, signal_lines, block_lines, channel_lines, offer_lines, line_lines, report_lines}
 use Rattle.dc_base.specs.States.{State, Core, Block}
 use Rattle.dc_base.specs.Timers.{in_order}
 use Rattle.dc_base.specs.Words.{numbered}
-use Rattle.dc_report.specs.Remaining.{from, from_within, part_lines, head_line, line_line, rest_from, blocks_from, channels_from, untaken_from, lines_from, offer_from, outs_from, parts_from, seats_from, disps_from, messages_from, signals_from, ready_line}
+use Rattle.dc_report.specs.Remaining.{from, from_within, part_lines, head_line, wire_line, rest_from, blocks_from, channels_from, untaken_from, lines_from, offer_from, outs_from, parts_from, seats_from, ready_line}
 use Rattle.dc_report.specs.declared.places.Part.{Part}
 use Rattle.dc_report.specs.declared.places.Part.TheVariants.{Disp}
 use Rattle.dc_report.specs.declared.places.Place.TheVariants.{Core as CorePlace, Block as BlockPlace, Within, Channel, ChannelMessage, Line, Offer, Out}
@@ -97,12 +97,12 @@ module _ (s : State) where
   unfolding rest_from
   no_channel x i h = ap (untaken_from x i s) h
 
-  pub line_told : (l : ℕ) (w : Wire) → slice_get s.lines l ≡ Some w → rest_from s (Line l) ≡ line_line s.blocks l w ∷ rest_from s (Offer l)
+  pub line_told : (l : ℕ) (w : Wire) → slice_get s.lines l ≡ Some w → rest_from s (Line l) ≡ wire_line s.blocks l w ∷ rest_from s (Offer l)
   unfolding rest_from
   line_told l w h =
       ap (λ ls. ls ++ outs_from 0 0 s) (from_there (line_lines s.blocks) s.lines l w h)
-      ∙ (ap (λ ls. line_line s.blocks l w ∷ ls) (append_assoc (offer_lines l w.offer) (from (line_lines s.blocks) (l + 1) s.lines) (outs_from 0 0 s))
-      ∙ ap (λ o. line_line s.blocks l w ∷ offer_from l s o) (sym h))
+      ∙ (ap (λ ls. wire_line s.blocks l w ∷ ls) (append_assoc (offer_lines l w.offer) (from (line_lines s.blocks) (l + 1) s.lines) (outs_from 0 0 s))
+      ∙ ap (λ o. wire_line s.blocks l w ∷ offer_from l s o) (sym h))
 
   pub lines_over : (l : ℕ) → slice_get s.lines l ≡ None → rest_from s (Line l) ≡ rest_from s (Out 0 0)
   unfolding rest_from

@@ -1,6 +1,6 @@
 -- What is read of an object, as the report has it.
-use Rattle.std.proofs.Common.{◌≡◌, ℕ, ◌-◌, List, [], ◌∷◌, Some, None, refl, sym, ap, ◌∙◌, map, length}
-use Rattle.std.specs.Prelude.{Option, is_some, slice_get}
+use Rattle.std.proofs.Common.{◌≡◌, ℕ, List, [], ◌∷◌, Some, None, refl, sym, ap, ◌∙◌, map, length}
+use Rattle.std.specs.Prelude.{Option}
 use Rattle.std.specs.Option.{option_map}
 use Rattle.dc_base.specs.declared.capabilities.Cap.{Cap}
 use Rattle.dc_base.specs.declared.interrupts.Timer.{Timer}
@@ -9,9 +9,9 @@ use Rattle.dc_base.specs.declared.numbers.BlockNo.{BlockNo}
 use Rattle.dc_base.specs.declared.numbers.CoreNo.{CoreNo}
 use Rattle.dc_base.specs.declared.numbers.DispNo.{DispNo}
 use Rattle.dc_base.specs.declared.numbers.SlotNo.{SlotNo}
-use Rattle.dc_base.specs.declared.reports.ReportLine.{ReportLine}
 use Rattle.dc_base.specs.declared.reports.ReportLine.TheVariants as line
 use Rattle.dc_base.specs.Capabilities.{Seat, seat_at, cap_at, parent_in, parent_at}
+use Rattle.dc_base.specs.Channels.{Ring}
 use Rattle.dc_base.specs.Report.{block_no, home_of, core_line, cap_line}
 use Rattle.dc_base.specs.States.{Core, Block, Member, core_in, time_of}
 use Rattle.dc_base.specs.Timers.{is_sooner, in_order}
@@ -63,3 +63,7 @@ on_is c k v clock used home share e f h i u =
     ∙ (ap (λ bs. line.CoreOn (record { 0 = c }) v k.clock (home_of k.share) (record { items = bs }) used) i
     ∙ (ap (λ n. line.CoreOn (record { 0 = c }) v k.clock (home_of k.share) (record { items = map (λ (m : Member). block_no m.block) k.share }) n) u
     ∙ ap (core_line c k) (sym e))))
+
+-- the first line of a channel
+pub channel_is : (x : ℕ) (r : Ring) (sent taken : ℕ) → sent ≡ r.sent → taken ≡ r.taken → line.Channel (record { 0 = x }) sent taken ≡ line.Channel (record { 0 = x }) r.sent r.taken
+channel_is x r sent taken e f = ap (λ n. line.Channel (record { 0 = x }) n taken) e ∙ ap (λ n. line.Channel (record { 0 = x }) r.sent n) f

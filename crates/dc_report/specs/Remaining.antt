@@ -1,5 +1,5 @@
 -- The lines of a report from a place on.
-use Rattle.std.specs.Prelude.{ℕ, ◌+◌, ◌-◌, is_some, nat_le, List, [], ◌∷◌, ◌++◌, Option, Some, None, map, filter, length, drop, slice_get, slice_index}
+use Rattle.std.specs.Prelude.{ℕ, ◌+◌, ◌-◌, is_some, nat_le, List, ◌∷◌, ◌++◌, Option, Some, None, map, filter, length, drop, slice_get, slice_index}
 use Rattle.std.specs.Option.{option_map}
 use Rattle.dc_base.specs.declared.dispatchers.DispState.{DispState}
 use Rattle.dc_base.specs.declared.reports.ReportLine.{ReportLine}
@@ -69,8 +69,8 @@ outs_from b i s = from_within out_lines b i s.consoles
 abbrev pub lines_from : ℕ → State → List ReportLine
 lines_from l s = from (line_lines s.blocks) l s.lines ++ outs_from 0 0 s
 
-abbrev pub line_line : List Block → ℕ → Wire → ReportLine
-line_line blocks l w =
+abbrev pub wire_line : List Block → ℕ → Wire → ReportLine
+wire_line blocks l w =
     line.Line (record { 0 = l }) (option_map (λ (to : ℕ × ℕ). (block_no to.0, record { 0 = to.1 })) w.bound) (option_map (λ c. record { 0 = c }) w.route)
     w.counts.raised w.counts.stray (count_of (is_some w.pending)) w.counts.merged (latches_of l blocks) w.counts.joined (w.counts.given - latches_of l blocks)
 

@@ -14,6 +14,9 @@ use dc_base::reports::ReportLine;
 use dc_kernel::Driver;
 use dc_objects::BlockState;
 
+/// The most slots that a block has.
+const SLOTS: u32 = 256;
+
 /// The first line of block `b` from slot `s` on, and the part after it.
 pub(crate) fn cap<D: Driver>(b: u32, block: &BlockState<D>, s: u32) -> Option<(ReportLine, Part)>
     requires shape { HasShape block.now.control }
@@ -21,7 +24,7 @@ pub(crate) fn cap<D: Driver>(b: u32, block: &BlockState<D>, s: u32) -> Option<(R
     requires caps { HasCaps block.now.control }
     ensures { Tells (part_lines b block.now) (part_lines b block.now (CapPart s)) result }
 {
-    for slot in s..256 {
+    for slot in s..SLOTS {
         if let Some(line) = cap_line(b, block, SlotNo(slot)) {
             return Some((line, Part::Cap(slot + 1)));
         }

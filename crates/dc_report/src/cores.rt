@@ -9,7 +9,7 @@ ghost use Rattle.dc_report.specs.Remaining.{rest_from};
 ghost use Rattle.dc_report.specs.Told.{Tells};
 ghost use Rattle.dc_report.specs.declared.places.Place.TheVariants.{Core as CorePlace};
 
-use crate::heads::block;
+use crate::blocks::block;
 use crate::places::Place;
 use dc_base::numbers::CoreNo;
 use dc_base::reports::ReportLine;

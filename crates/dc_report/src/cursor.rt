@@ -6,9 +6,9 @@ ghost use Rattle.dc_objects.specs.States.{state_of};
 ghost use Rattle.dc_report.specs.Remaining.{rest, rest_from};
 ghost use Rattle.dc_report.specs.Told.{Tells};
 
+use crate::blocks::{block, within};
 use crate::channels::{channel, untaken};
 use crate::cores::core;
-use crate::heads::{block, within};
 use crate::lines::{line, offer};
 use crate::outputs::output;
 use crate::places::Place;
@@ -17,7 +17,7 @@ use dc_kernel::Driver;
 use dc_objects::Objects;
 
 /// How far the report of a machine has come.
-#[derive(Clone, Copy, Debug)]
+#[derive(Debug, Drop)]
 pub struct Report {
     place: Place,
 }

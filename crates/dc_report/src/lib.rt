@@ -1,12 +1,12 @@
 //! The lines of the report of a machine, one by one.
 #![tactic(auto)]
 
+mod blocks;
 mod caps;
 mod channels;
 mod cores;
 mod cursor;
 mod disps;
-mod heads;
 mod latches;
 mod lines;
 mod messages;

@@ -1,7 +1,7 @@
 ghost use Rattle.std.specs.Prelude.{◌≡◌, slice_get, Some};
 ghost use Rattle.dc_base.specs.Sound.{IsSound};
 ghost use Rattle.dc_objects.specs.States.{state_of};
-ghost use Rattle.dc_report.specs.Remaining.{line_line, rest_from};
+ghost use Rattle.dc_report.specs.Remaining.{wire_line, rest_from};
 ghost use Rattle.dc_report.specs.Told.{Tells};
 ghost use Rattle.dc_report.specs.declared.places.Place.TheVariants.{Line as LinePlace, Offer as OfferPlace};
 
@@ -20,7 +20,7 @@ pub(crate) fn line<D: Driver>(objects: &Objects<D>, l: u32) -> Option<(ReportLin
     ensures { Tells (rest_from (state_of objects.now)) (rest_from (state_of objects.now) (LinePlace l)) result }
 {
     match objects.lines.get(l as usize) {
-        Some(line) => Some((line_line(objects, l, line), Place::Offer(l))),
+        Some(line) => Some((wire_line(objects, l, line), Place::Offer(l))),
         None => output(objects, 0, 0),
     }
 }
@@ -46,10 +46,10 @@ pub(crate) fn offer<D: Driver>(objects: &Objects<D>, l: u32) -> Option<(ReportLi
     }
 }
 
-fn line_line<D: Driver>(objects: &Objects<D>, l: u32, line: &Line) -> ReportLine
+fn wire_line<D: Driver>(objects: &Objects<D>, l: u32, line: &Line) -> ReportLine
     requires sound { IsSound (state_of objects.now) }
     requires there { slice_get (state_of objects.now).lines l ≡ Some line.now }
-    ensures { result ≡ line_line (state_of objects.now).blocks l line.now }
+    ensures { result ≡ wire_line (state_of objects.now).blocks l line.now }
 {
     let counts = line.counts();
     let latched = latches(objects, l);

@@ -13,6 +13,9 @@ use dc_base::reports::ReportLine;
 use dc_kernel::Driver;
 use dc_objects::BlockState;
 
+/// The most ports that a block has.
+const PORTS: u32 = 16;
+
 /// The first line of block `b` from the message at place `i` of port `p` on, and the part after it.
 pub(crate) fn message<D: Driver>(
     b: u32,
@@ -25,7 +28,7 @@ pub(crate) fn message<D: Driver>(
     ensures { Tells (part_lines b block.now) (part_lines b block.now (MessagePart p i)) result }
 {
     let mut at = i;
-    for port in p..16 {
+    for port in p..PORTS {
         if let Some(message) = message_at(block, PortNo(port), at) {
             let line = ReportLine::PortMessage {
                 block: BlockNo(b),

@@ -12,17 +12,16 @@ use dc_base::reports::ReportLine;
 use dc_kernel::Driver;
 use dc_objects::Objects;
 
+/// The most blocks that there are.
+const BLOCKS: u32 = 16;
+
 /// The first line from the word at place `i` of the console of block `b` on, and the place after it. None where no word is left.
-pub(crate) fn output<D: Driver>(
-    objects: &Objects<D>,
-    b: u32,
-    i: u32,
-) -> Option<(ReportLine, Place)>
+pub(crate) fn output<D: Driver>(objects: &Objects<D>, b: u32, i: u32) -> Option<(ReportLine, Place)>
     requires { IsSound (state_of objects.now) }
     ensures { Tells (rest_from (state_of objects.now)) (rest_from (state_of objects.now) (OutPlace b i)) result }
 {
     let mut at = i;
-    for block in b..16 {
+    for block in b..BLOCKS {
         if let Some(word) = word_at(objects, block, at) {
             let line = ReportLine::Out {
                 block: BlockNo(block),

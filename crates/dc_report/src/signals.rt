@@ -9,16 +9,15 @@ use dc_base::reports::ReportLine;
 use dc_kernel::Driver;
 use dc_objects::BlockState;
 
+/// The most signals that a block has.
+const SIGNALS: u32 = 16;
+
 /// The first line of block `b` from signal `s` on, and the part after it. None where none of them holds a latch.
-pub(crate) fn signal<D: Driver>(
-    b: u32,
-    block: &BlockState<D>,
-    s: u32,
-) -> Option<(ReportLine, Part)>
+pub(crate) fn signal<D: Driver>(b: u32, block: &BlockState<D>, s: u32) -> Option<(ReportLine, Part)>
     requires { HasShape block.now.control }
     ensures { Tells (part_lines b block.now) (part_lines b block.now (SignalPart s)) result }
 {
-    for signal in s..16 {
+    for signal in s..SIGNALS {
         if let Some(latch) = block.signal(SignalNo(signal)) {
             let line = ReportLine::Signal {
                 block: BlockNo(b),

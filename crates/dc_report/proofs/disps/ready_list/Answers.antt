@@ -1,4 +1,4 @@
-use Rattle.std.proofs.Common.{◌≡◌, ℕ, List, sym, ap, ◌∙◌, map, take, length}
+use Rattle.std.proofs.Common.{ℕ, ap, ◌∙◌, map}
 use Rattle.std.proofs.lemmas.List.{take_all}
 use Rattle.dc_base.specs.declared.numbers.DispNo.{DispNo}
 use Rattle.dc_report.proofs.Readings.{first_parts}

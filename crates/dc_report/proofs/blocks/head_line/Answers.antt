@@ -1,10 +1,9 @@
-use Rattle.std.proofs.Common.{◌≡◌, refl, sym, ap, ◌∙◌, length}
-use Rattle.dc_base.specs.declared.numbers.CoreNo.{CoreNo}
+use Rattle.std.proofs.Common.{ap, ◌∙◌, length}
 use Rattle.dc_objects.specs.States.{state_of}
 use Rattle.dc_report.specs.Clocks.{clock_on}
 use Rattle.dc_report.proofs.Bounds.{timed, time_is}
 use Rattle.dc_report.proofs.Readings.{head_is, armed_is}
-use Rattle.dc_report.proofs.heads.head_line.Goals as goal
+use Rattle.dc_report.proofs.blocks.head_line.Goals as goal
 
 pub time-requires-after_bounds : goal.time-requires-after_bounds
 time-requires-after_bounds g c κs within = timed (state_of c.args.objects.now) c.requires.sound c.clock_on-clock.result c.args.b c.args.block.now c.requires.there (c.clock_on-clock.ensures ∙ ap (clock_on c.args.objects.now.cores.items) c.core-core.ensures)

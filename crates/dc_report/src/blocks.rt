@@ -22,7 +22,10 @@ pub(crate) fn block<D: Driver>(objects: &Objects<D>, b: u32) -> Option<(ReportLi
     ensures { Tells (rest_from (state_of objects.now)) (rest_from (state_of objects.now) (BlockPlace b)) result }
 {
     match objects.blocks.get(b as usize) {
-        Some(block) => Some((head_line(objects, b, block), Place::Within(b, Part::Disp(0)))),
+        Some(block) => Some((
+            head_line(objects, b, block),
+            Place::Within(b, Part::Disp(0)),
+        )),
         None => channel(objects, 0),
     }
 }

@@ -2,7 +2,7 @@ use Rattle.dc_objects.specs.States.{state_of}
 use Rattle.dc_report.proofs.Drops.{read_at, none_at}
 use Rattle.dc_report.proofs.PlaceLaws.{part_told, parts_over, no_block}
 use Rattle.dc_report.proofs.Telling.{instead}
-use Rattle.dc_report.proofs.heads.within.Goals as goal
+use Rattle.dc_report.proofs.blocks.within.Goals as goal
 
 pub returns-in_default : goal.returns-in_default
 returns-in_default g c = instead _ _ _ _ (no_block (state_of c.args.objects.now) c.args.b c.args.part (none_at _ _ c.args.b c.deref.ensures.value c.in_default.ensures.lookup.3)) c.channel.ensures
