@@ -1,11 +1,9 @@
 -- The lines of a report from a place on.
-use Rattle.std.specs.Prelude.{ℕ, ◌+◌, ◌-◌, is_some, nat_le, List, ◌∷◌, ◌++◌, Option, Some, None, map, filter, length, drop, slice_get, slice_index}
+use Rattle.std.specs.Prelude.{ℕ, ◌+◌, ◌-◌, is_some, nat_le, List, ◌∷◌, ◌++◌, Option, Some, None, map, filter, length, drop, slice_get}
 use Rattle.std.specs.Option.{option_map}
-use Rattle.dc_base.specs.declared.dispatchers.DispState.{DispState}
 use Rattle.dc_base.specs.declared.reports.ReportLine.{ReportLine}
 use Rattle.dc_base.specs.declared.reports.ReportLine.TheVariants as line
 use Rattle.dc_base.specs.Words.{numbered, elements, count_of}
-use Rattle.dc_base.specs.Parts.{place_at}
 use Rattle.dc_base.specs.Capabilities.{Seat}
 use Rattle.dc_base.specs.Timers.{in_order}
 use Rattle.dc_base.specs.Channels.{Ring}
@@ -42,11 +40,9 @@ seats_from n caps = filter (λ (h : Seat). nat_le n h.slot) caps
 abbrev pub caps_from : ℕ → ℕ → Block → List ReportLine
 caps_from b n x = map (cap_line b) (seats_from n x.control.parts.caps) ++ timers_from b 0 x
 
+-- the line of the ready list
 abbrev pub ready_line : ℕ → Block → ReportLine
 ready_line b x = line.Ready (block_no b) (record { items = map (λ d. record { 0 = d }) x.control.ready })
-
-abbrev pub disp_line : ℕ → Block → ℕ → DispState → ReportLine
-disp_line b x d state = line.Disp (block_no b) (record { 0 = d }) state (place_at x.control.parts d) (slice_index x.control.dues d)
 
 abbrev pub disps_from : ℕ → ℕ → Block → List ReportLine
 disps_from b d x = from (disp_lines b x) d x.control.states ++ ready_line b x ∷ caps_from b 0 x
@@ -60,6 +56,7 @@ part_lines b x (part.Timer i) = timers_from b i x
 part_lines b x (part.PortMessage p i) = messages_from b p i x
 part_lines b x (part.Signal i) = signals_from b i x
 
+-- the first line of a block
 abbrev pub head_line : List Core → ℕ → Block → ReportLine
 head_line cores b x = line.Block (block_no b) (option_map (λ c. record { 0 = c }) (core_in x.whereabouts)) (time_of cores x.whereabouts) (length x.control.parts.timers)
 
@@ -69,6 +66,7 @@ outs_from b i s = from_within out_lines b i s.consoles
 abbrev pub lines_from : ℕ → State → List ReportLine
 lines_from l s = from (line_lines s.blocks) l s.lines ++ outs_from 0 0 s
 
+-- the first line of an interrupt line
 abbrev pub wire_line : List Block → ℕ → Wire → ReportLine
 wire_line blocks l w =
     line.Line (record { 0 = l }) (option_map (λ (to : ℕ × ℕ). (block_no to.0, record { 0 = to.1 })) w.bound) (option_map (λ c. record { 0 = c }) w.route)
