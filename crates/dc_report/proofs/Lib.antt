@@ -1,0 +1,9 @@
+pub mod Drops
+pub mod Slots
+pub mod DispParts
+pub mod PartLaws
+pub mod PlaceLaws
+pub mod Readings
+pub mod Bounds
+pub mod Telling
+pub mod CountedLatches
