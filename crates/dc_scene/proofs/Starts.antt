@@ -10,7 +10,7 @@ use Rattle.dc_base.specs.declared.images.Image.{Image}
 use Rattle.dc_base.specs.declared.images.BlockImage.{BlockImage}
 use Rattle.dc_base.specs.declared.images.CoreImage.{CoreImage}
 use Rattle.dc_base.specs.declared.commands.ScriptLine.{ScriptLine}
-use Rattle.dc_base.specs.States.{Settings, settings_of, cores_from, core_start}
+use Rattle.dc_base.specs.States.{State, Settings, settings_of, cores_from, core_start}
 use Rattle.dc_base.specs.Bounded.{AreLimited}
 use Rattle.dc_base.specs.Objects.{objects, HasSizes}
 use Rattle.dc_scene.specs.declared.objects.Object.{Object as Held}
@@ -47,12 +47,11 @@ same_get [] i x h = cc
 same_get (y ∷ xs) zero x h = let e : y ≡ x = cc in ap Some e
 same_get (y ∷ xs) (suc i) x h = same_get xs i x h
 
--- objects that are those of the start are each as its number says
-pub held_start : {D : Type 0} (image : Image) (lines : List ScriptLine) (held : List (Held D)) → map object_seen held ≡ objects (core_start image lines)
-    → (i : ℕ) (x : Held D) → get_elem? held i ≡ some x → Some (object_seen x) ≡ at_sized (settings_of image) (core_start image lines) i
-held_start image lines held same i x h =
+-- objects that are those of a state of the right sizes are each as its number says
+pub held_start : {D : Type 0} (t : Settings) (s : State) → HasSizes t s → (held : List (Held D)) → map object_seen held ≡ objects s
+    → (i : ℕ) (x : Held D) → get_elem? held i ≡ some x → Some (object_seen x) ≡ at_sized t s i
+held_start t s z held same i x h =
     ap (option_map object_seen) (sym (same_get held i x h))
     ∙ (sym (slice_get-map object_seen held i)
     ∙ (ap (λ os. slice_get os i) same
-    ∙ (sym (at_objects (settings_of image) (core_start image lines) (start_sizes image lines) i)
-    ∙ sym (at_sizes (settings_of image) (core_start image lines) (start_sizes image lines) i))))
+    ∙ (sym (at_objects t s z i) ∙ sym (at_sizes t s z i))))

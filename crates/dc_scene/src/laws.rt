@@ -1,5 +1,5 @@
 //! Laws of the scene: how it opens, and what its history is.
-ghost use Rattle.std.specs.Prelude.{◌≡◌, ◌↔◌, ℕ, ◌+◌, ◌≤◌, List, slice_get, map, length, Some};
+ghost use Rattle.std.specs.Prelude.{◌≡◌, ◌↔◌, ℕ, ◌+◌, ◌≤◌, List, slice_get, map, length};
 ghost use mathlib.Core.Option.{some};
 ghost use lib.ListN.{get_elem?};
 ghost use Rattle.dc_base.specs.declared.commands.ScriptLine.{ScriptLine};
@@ -9,17 +9,19 @@ ghost use Rattle.dc_base.specs.States.{State, Settings, core_start, settings_of}
 ghost use Rattle.dc_base.specs.Bounded.{AreLimited};
 ghost use Rattle.dc_base.specs.Histories.{IsLawfulHistory};
 ghost use Rattle.dc_base.specs.Histories.{after as after_entries};
-ghost use Rattle.dc_base.specs.Objects.{objects, at_number, HasSizes};
+ghost use Rattle.dc_base.specs.Objects.{objects, at_number, touched_numbers, HasSizes};
 ghost use Rattle.dc_stage.specs.History.{Log, IsLawful, whole_after, after};
+ghost use Rattle.dc_scene.specs.declared.machines.Machine.{Machine as Played};
 ghost use Rattle.dc_scene.specs.declared.objects.Object.{Object as Held};
 ghost use Rattle.dc_scene.specs.Objects.{object_seen};
-ghost use Rattle.dc_scene.specs.Machines.{machine};
 
+use crate::machines::Machine;
 use dc_kernel::Driver;
+use dc_stage::Scene;
 
 /// In a state of the sizes that the settings say, the objects by number are the list of all objects. There are as many as the settings say.
 pub fn objects_are_numbered()
-    ensures each { (t : Settings) (s : State) → HasSizes t s → (i : ℕ) → (machine t s).at s i ≡ slice_get (objects s) i }
+    ensures each { (t : Settings) (s : State) → HasSizes t s → (i : ℕ) → at_number t s i ≡ slice_get (objects s) i }
     ensures count { (t : Settings) (s : State) → HasSizes t s → length (objects s) ≡ t.cores + t.blocks + t.channels + t.lines + t.cores + t.blocks + 1 }
 {}
 
@@ -29,16 +31,20 @@ pub fn start_is_sized()
     ensures few { (image : Image) (script : List ScriptLine) → AreLimited (settings_of image) → length (objects (core_start image script)) ≤ 1024 }
 {}
 
-/// Objects that are those of the start, in the order of their numbers, are each in its start state.
+/// Objects that are those of the start, in the order of their numbers, are each in the scene's start state.
 pub fn start_opens<D: Driver>()
-    ensures { (image : Image) (script : List ScriptLine) (held : List (Held D)) → map object_seen held ≡ objects (core_start image script) →
-        (i : ℕ) (x : Held D) → get_elem? held i ≡ some x → Some (object_seen x) ≡ (machine (settings_of image) (core_start image script)).at (core_start image script) i }
+    ensures { (m : Played D) → HasSizes m.settings m.start → (held : List (Held D)) → map object_seen held ≡ objects m.start →
+        (i : ℕ) (x : Held D) → get_elem? held i ≡ some x →
+        ⟦<Machine<D> as Scene>⟧.state x ≡ (⟦<Machine<D> as Scene>⟧.meaning m).at (⟦<Machine<D> as Scene>⟧.meaning m).start i }
 {}
 
-/// A lawful history of the scene is one of the machine, and the states after it are the machine's.
-pub fn history_is_of_the_machine()
-    ensures lawful { (t : Settings) (s : State) → HasSizes t s → (log : Log Entry) → IsLawful (machine t s) log ↔ IsLawfulHistory t s log }
-    ensures whole { (t : Settings) (s : State) (log : Log Entry) → whole_after (machine t s) log ≡ after_entries s log }
-    ensures sizes { (t : Settings) (s : State) → HasSizes t s → (log : Log Entry) → HasSizes t (after_entries s log) }
-    ensures object { (t : Settings) (s : State) → HasSizes t s → (log : Log Entry) (i : ℕ) → after (machine t s) log i ≡ at_number t (after_entries s log) i }
+/// A lawful history of the scene is one of the machine, the state after it is the machine's, and so is each object. An entry touches what it does in the machine.
+pub fn history_is_of_the_machine<D: Driver>()
+    ensures lawful { (m : Played D) → HasSizes m.settings m.start → (log : Log Entry) →
+        IsLawful (⟦<Machine<D> as Scene>⟧.meaning m) log ↔ IsLawfulHistory m.settings m.start log }
+    ensures whole { (m : Played D) (log : Log Entry) → whole_after (⟦<Machine<D> as Scene>⟧.meaning m) log ≡ after_entries m.start log }
+    ensures sizes { (m : Played D) → HasSizes m.settings m.start → (log : Log Entry) → HasSizes m.settings (after_entries m.start log) }
+    ensures object { (m : Played D) → HasSizes m.settings m.start → (log : Log Entry) (i : ℕ) →
+        after (⟦<Machine<D> as Scene>⟧.meaning m) log i ≡ at_number m.settings (after_entries m.start log) i }
+    ensures touched { (m : Played D) (s : State) (by : ℕ) (e : Entry) → (⟦<Machine<D> as Scene>⟧.meaning m).touched s by e ≡ touched_numbers m.settings s e }
 {}

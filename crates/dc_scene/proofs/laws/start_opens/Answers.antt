@@ -2,4 +2,4 @@ use Rattle.dc_scene.proofs.Starts.{held_start}
 use Rattle.dc_scene.proofs.laws.start_opens.Goals as goal
 
 pub returns : goal.returns
-returns g c = held_start
+returns g c = λ m z held. held_start m.settings m.start z held
