@@ -4,9 +4,11 @@
 mod laws;
 mod machines;
 mod objects;
+mod openings;
 mod wholes;
 
 pub use laws::{history_is_of_the_machine, objects_are_numbered, start_is_sized, start_opens};
 pub use machines::{Machine, scene};
 pub use objects::{Object, Shown};
+pub use openings::open_stage;
 pub use wholes::Whole;
