@@ -1,0 +1,5 @@
+pub mod Adding
+pub mod PlayTexts
+pub mod ReportTexts
+pub mod Rises
+pub mod RunTexts

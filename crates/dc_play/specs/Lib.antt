@@ -1,0 +1,4 @@
+pub mod Plays
+pub mod ReportLines
+pub mod Summaries
+pub mod Written

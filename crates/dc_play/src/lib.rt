@@ -1,0 +1,13 @@
+//! A schedule played on the machine of an image and a script: the text of the run, and its summary.
+#![tactic(auto)]
+
+mod ends;
+mod lines;
+mod plays;
+mod summaries;
+mod writing;
+
+pub use lines::{count_line, word_line};
+pub use plays::play;
+pub use summaries::{Summary, play_summary};
+pub use writing::{put_line, put_text};
