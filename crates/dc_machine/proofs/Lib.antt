@@ -1,3 +1,4 @@
+pub mod CoreTurns
 pub mod Dues
 pub mod Firsts
 pub mod InHands
