@@ -1,4 +1,5 @@
 pub mod ActionTurns
+pub mod CoreTurns
 pub mod Disps
 pub mod Dues
 pub mod Firsts
