@@ -7,7 +7,7 @@ ghost use Rattle.dc_base.specs.Cores.{core_step};
 ghost use Rattle.dc_base.specs.Sound.{IsSound};
 ghost use Rattle.dc_base.specs.Valid.{IsActionOf};
 ghost use Rattle.dc_objects.specs.States.{state_of};
-ghost use Rattle.dc_machine.specs.Answers.{Answers, polls_then};
+ghost use Rattle.dc_machine.specs.Answers.{Answers, IsQuiet, polls_then};
 
 use crate::commands::script_turn;
 use crate::intakes::intake_turn;
@@ -35,7 +35,8 @@ fn core_turn<D: Driver>(objects: &mut Objects<D>, c: CoreNo, action: &Action) ->
     requires action { IsActionOf (state_of objects.old).script.settings (actor.Core c) action.now }
     requires first { D.served Rr ≡ true }
     requires second { D.served Edf ≡ true }
-    ensures { Answers result (state_of objects.old) (state_of objects.new) (core_step (state_of objects.old) 0 (actor.Core c) action.now) }
+    ensures step { Answers result (state_of objects.old) (state_of objects.new) (core_step (state_of objects.old) 0 (actor.Core c) action.now) }
+    ensures quiet { IsQuiet result }
 {
     match *action {
         Action::Step => step_turn(objects, c),
@@ -48,6 +49,7 @@ fn core_turn<D: Driver>(objects: &mut Objects<D>, c: CoreNo, action: &Action) ->
 }
 
 /// An action of the script.
+#[tactic(auto, using(crate::proofs::ActionTurns::raise_leaves))]
 fn script_action<D: Driver>(objects: &mut Objects<D>, polls: &mut u32, action: &Action) -> Stepped
     requires sound { IsSound (state_of objects.old) }
     requires action { IsActionOf (state_of objects.old).script.settings actor.Script action.now }
@@ -65,6 +67,7 @@ fn script_action<D: Driver>(objects: &mut Objects<D>, polls: &mut u32, action: &
 
 /// An action of an actor of the machine, from a sound state. `polls` is the number of polls made of the command at which the script stands, at most 1,000,000,000.
 /// The machine serves both versions of the kernel.
+#[tactic(auto, using(crate::proofs::ActionTurns::core_alike, crate::proofs::ActionTurns::core_leaves))]
 pub fn step<D: Driver>(objects: &mut Objects<D>, polls: &mut u32, who: Actor, action: &Action) -> Stepped
     requires sound { IsSound (state_of objects.old) }
     requires action { IsActionOf (state_of objects.old).script.settings who action.now }
