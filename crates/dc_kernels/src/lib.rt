@@ -6,4 +6,6 @@ mod benches;
 #[cfg(test)]
 mod images;
 #[cfg(test)]
+mod randoms;
+#[cfg(test)]
 mod tests;
