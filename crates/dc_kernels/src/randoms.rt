@@ -2,8 +2,9 @@
 
 ghost use Rattle.std.specs.Prelude.{◌<◌};
 
-use crate::benches::{Bench, World, turn};
+use crate::benches::{Bench, turn};
 use crate::images::boot;
+use crate::worlds::World;
 use dc_base::calls::{End, Op};
 use dc_base::capabilities::Cap;
 use dc_base::interrupts::{Latch, Timer};
@@ -142,7 +143,7 @@ impl Dice {
 }
 
 /// The program of a seed, from 8 to 12 lines.
-fn program(alloc: Global, seed: u32) -> Result<String, Fail> {
+pub(crate) fn program(alloc: Global, seed: u32) -> Result<String, Fail> {
     let mut dice = Dice { state: seed };
     let mut code = String::from_str(alloc, "li r0 5\nli r7 4\narm s3 r0 9\na:\n")?;
     let count = 4 + dice.below(5);
@@ -210,7 +211,7 @@ fn slices<R: Abort>(
 
 /// What a block of one dispatcher and what is outside it have come to. Its due counts the slices under earliest due first, and is left out.
 #[derive(Clone, Copy, Debug, PartialEq, Eq)]
-struct Standing {
+pub(crate) struct Standing {
     time: u64,
     disp: Option<Dispatcher>,
     words: [Option<u32>; 4],
@@ -228,7 +229,7 @@ struct Standing {
     offered: Option<(ChanNo, u8)>,
 }
 
-fn what_stands(bench: &Bench) -> Standing {
+pub(crate) fn what_stands(bench: &Bench) -> Standing {
     let Bench { kcb, world, .. } = bench;
     let timers = kcb.timers();
     Standing {
