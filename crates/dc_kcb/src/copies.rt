@@ -4,10 +4,8 @@ ghost use Rattle.std.specs.Prelude.{◌≡◌};
 
 use arrayvec::ArrayVec;
 
-/// A copy of the list.
-pub(crate) fn copied<T: Copy + Default + Drop, const CAP: usize>(
-    list: &ArrayVec<T, CAP>,
-) -> ArrayVec<T, CAP>
+/// Another list of the same items in the same order. The list stays as it is.
+pub fn copied<T: Copy + Default, const CAP: usize>(list: &ArrayVec<T, CAP>) -> ArrayVec<T, CAP>
     ensures { result.items ≡ list.now.items }
 {
     let mut copy = ArrayVec::new();

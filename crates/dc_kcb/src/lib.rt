@@ -13,6 +13,7 @@ mod starts;
 #[cfg(test)]
 mod tests;
 
+pub use copies::copied;
 pub use fields::{code_in, disp_in, dispatchers_are_read, latch_in, port_in};
 pub use kcb::Kcb;
 pub use parts::Parts;

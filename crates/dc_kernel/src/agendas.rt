@@ -26,6 +26,7 @@ use dc_base::dispatchers::{DispState, Wait};
 use dc_base::interrupts::{Latch, Latched, Source, Timer};
 use dc_base::numbers::{DispNo, SignalNo};
 use dc_isa::Dispatcher;
+use dc_kcb::copied;
 use dc_ports::Signal;
 use dc_ready::ReadyList;
 use dc_timers::{TimerQueue, TimersFull};
@@ -56,7 +57,6 @@ impl<R: ReadyList, T: TimerQueue> Agenda<R, T> {
     pub(crate) fn pick(&self) -> Option<DispNo>
         ensures { option_map (λ (d : Disp). d.0) result ≡ pick R.policy (map due_of self.now.disps) (dispatchers self.now.ready) }
     {
-        let _ = &self.disps;
         self.ready.pick()
     }
 
@@ -73,7 +73,6 @@ impl<R: ReadyList, T: TimerQueue> Agenda<R, T> {
         ensures control { (s : Store) → control_of s self.new ≡ without_ready d.0 (control_of s self.old) }
         ensures size { length self.new.disps ≡ length self.old.disps }
     {
-        let _ = &self.disps;
         self.ready.remove(d);
     }
 
@@ -200,7 +199,6 @@ impl<R: ReadyList, T: TimerQueue> Agenda<R, T> {
         ensures which { result ≡ due_timer time self.old.timers }
         ensures rest { self.new ≡ record self.old { timers = without_fired result self.old.timers } }
     {
-        let _ = &self.disps;
         self.timers.due(time)
     }
 
@@ -223,8 +221,8 @@ impl<R: ReadyList, T: TimerQueue> Agenda<R, T> {
         ensures { result ≡ self.now }
     {
         Agenda {
-            disps: copy_of(&self.disps),
-            signals: copy_of(&self.signals),
+            disps: copied(&self.disps),
+            signals: copied(&self.signals),
             ready: R::restore(&self.ready.to_list()),
             timers: T::restore(self.timers.next(), &self.timers.to_list()),
         }
@@ -234,7 +232,6 @@ impl<R: ReadyList, T: TimerQueue> Agenda<R, T> {
     pub(crate) fn can_run(&self, time: u64) -> bool
         ensures { result ≡ (nat_lt 0 (length self.now.ready) || is_due time self.now.timers) }
     {
-        let _ = &self.disps;
         self.ready.pick().is_some() || self.timers.is_due(time)
     }
 
@@ -242,7 +239,6 @@ impl<R: ReadyList, T: TimerQueue> Agenda<R, T> {
     pub(crate) fn deadline(&self) -> Option<u64>
         ensures { result ≡ option_map (λ (t : Armed). t.deadline) (soonest self.now.timers) }
     {
-        let _ = &self.disps;
         self.timers.earliest()
     }
 
@@ -252,7 +248,6 @@ impl<R: ReadyList, T: TimerQueue> Agenda<R, T> {
         ensures latch { result ≡ latch_at self.old.signals s.0 }
         ensures agenda { self.new ≡ record self.old { signals = slice_set self.old.signals s.0 None } }
     {
-        let _ = &self.disps;
         self.signals[s.0 as usize].take()
     }
 
@@ -269,7 +264,6 @@ impl<R: ReadyList, T: TimerQueue> Agenda<R, T> {
         ensures kept { OnErr result (self.new ≡ self.old) }
         ensures size { length self.new.disps ≡ length self.old.disps }
     {
-        let _ = &self.disps;
         self.timers.arm(deadline, signal, value)?;
         Ok(())
     }
@@ -280,15 +274,4 @@ fn is_waiting(state: DispState, w: Wait) -> bool
     ensures { result ≡ waits_so w state }
 {
     state == DispState::Waits(w)
-}
-
-/// Another list of the same.
-fn copy_of<T: Copy + Default>(items: &ArrayVec<T, 16>) -> ArrayVec<T, 16>
-    ensures { result.items ≡ items.now.items }
-{
-    let mut copy = ArrayVec::new();
-    for &item in items.as_slice() {
-        copy.push(item);
-    }
-    copy
 }

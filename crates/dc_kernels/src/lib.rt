@@ -2,8 +2,18 @@
 #![tactic(auto)]
 
 #[cfg(test)]
+mod adopted;
+#[cfg(test)]
 mod benches;
 #[cfg(test)]
 mod images;
 #[cfg(test)]
+mod randoms;
+#[cfg(test)]
+mod stays;
+#[cfg(test)]
 mod tests;
+#[cfg(test)]
+mod wakes;
+#[cfg(test)]
+mod worlds;

@@ -1,5 +1,6 @@
-use crate::benches::{Bench, World, turn};
+use crate::benches::{Bench, turn};
 use crate::images::boot;
+use crate::worlds::World;
 use dc_base::calls::{End, Op};
 use dc_base::kernels::Version;
 use dc_base::numbers::DispNo;

@@ -67,9 +67,10 @@ is_there e = subst (λ o. IsSome o) (sym e) refl
 pub taken_in : (s : State) (c : CoreNo) (l : LineNo) (w v : Wire) (n : ℕ) (b : BlockNo) (i : SignalNo) (x y : Block) (h : Latched) → slice_get s.blocks b.0 ≡ Some x →
     h ≡ how_latched (latch_at x.control.parts.signals i.0) → y ≡ with_control (latch_in i.0 (line_latch l.0 n) x.control) x → v ≡ wire_after_intake h w →
     Answers (stepped.Did (record { actor = actor.Core c; what = what.Intake l n b i h })) s (record s { blocks = slice_set s.blocks b.0 y; lines = slice_set s.lines l.0 v })
-      (intake_outcome c.0 l.0 w n b.0 i.0 (slice_get s.blocks b.0))
+    (intake_outcome c.0 l.0 w n b.0 i.0 (slice_get s.blocks b.0))
 taken_in s c l w v n b i x y h e a f g = subst (λ o. Answers (stepped.Did (record { actor = actor.Core c; what = what.Intake l n b i h })) s (record s { blocks = slice_set s.blocks b.0 y; lines = slice_set s.lines l.0 v })
-      (intake_outcome c.0 l.0 w n b.0 i.0 o)) (sym e)
-    (ap (λ (q : Latched). stepped.Did (record { actor = actor.Core c; what = what.Intake l n b i q })) a,
-     ap (λ (q : Block). record s { blocks = slice_set s.blocks b.0 q; lines = slice_set s.lines l.0 v }) f
-     ∙ ap (λ (q : Wire). record s { blocks = slice_set s.blocks b.0 (with_control (latch_in i.0 (line_latch l.0 n) x.control) x); lines = slice_set s.lines l.0 q }) (g ∙ ap (λ q. wire_after_intake q w) a))
+    (intake_outcome c.0 l.0 w n b.0 i.0 o)) (sym e) (
+      ap (λ (q : Latched). stepped.Did (record { actor = actor.Core c; what = what.Intake l n b i q })) a,
+      ap (λ (q : Block). record s { blocks = slice_set s.blocks b.0 q; lines = slice_set s.lines l.0 v }) f
+          ∙ ap (λ (q : Wire). record s { blocks = slice_set s.blocks b.0 (with_control (latch_in i.0 (line_latch l.0 n) x.control) x); lines = slice_set s.lines l.0 q }) (g ∙ ap (λ q. wire_after_intake q w) a),
+    )

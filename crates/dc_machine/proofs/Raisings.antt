@@ -76,5 +76,7 @@ no_raise_line s q (Some (line.Await b w m)) e = refl
 pub made : (s : State) (q : ℕ) (l : LineNo) (w v : Wire) (h : Raised) (t : Script) (r : Stepped) → r ≡ stepped.Did (by_script (what.Raise q l h)) →
     h ≡ how_raised (w.counts.raised + 1) w.bound w.pending → v ≡ wire_after_raise w → t ≡ record s.script { raises = s.script.raises + 1 } →
     Answers r s (record s { lines = slice_set s.lines l.0 v; script = t }) (raise_on s.script q l (Some w))
-made s q l w v h t r a b d f = (a ∙ ap (λ y. stepped.Did (by_script (what.Raise q l y))) b,
-    ap (λ y. record s { lines = slice_set s.lines l.0 y; script = t }) d ∙ ap (λ y. record s { lines = slice_set s.lines l.0 (wire_after_raise w); script = y }) f)
+made s q l w v h t r a b d f = (
+  a ∙ ap (λ y. stepped.Did (by_script (what.Raise q l y))) b,
+  ap (λ y. record s { lines = slice_set s.lines l.0 y; script = t }) d ∙ ap (λ y. record s { lines = slice_set s.lines l.0 (wire_after_raise w); script = y }) f,
+)

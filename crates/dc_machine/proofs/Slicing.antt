@@ -124,8 +124,8 @@ module _ (s new : State) (c : CoreNo) (k : Core) (b : BlockNo) (x : Block) (n : 
   slice_answers r is need t e =
       let free : sl.disp ≡ None → n ≡ needs.Nothing = λ h. need ∙ done_free (look_in s b.0) refl k.settings.quantum c.0 b.0 k.clock r (told control sl out) t (ap number_of h) in
       let turn : outcome s (slice_turn c.0 k b.0 (Some x)) ≡ outcome_by c.0 k b.0 x n (told control sl out) (number_of sl.disp) =
-          ap (λ (y : Block). outcome s (slice_turn c.0 k b.0 (Some y))) is ∙ (slice_done s c.0 k b.0 r ∙ (ap (λ o. done_outcome c.0 k b.0 (on_core c.0 r) (need_in (halfway_in k.settings.quantum k.clock r)) o) (sym t)
-          ∙ (ap (λ (m : Need). outcome_by c.0 k b.0 (on_core c.0 r) m (told control sl out) (number_of sl.disp)) (sym need) ∙ ap (λ (y : Block). outcome_by c.0 k b.0 y n (told control sl out) (number_of sl.disp)) (sym is)))) in
+      ap (λ (y : Block). outcome s (slice_turn c.0 k b.0 (Some y))) is ∙ (slice_done s c.0 k b.0 r ∙ (ap (λ o. done_outcome c.0 k b.0 (on_core c.0 r) (need_in (halfway_in k.settings.quantum k.clock r)) o) (sym t)
+      ∙ (ap (λ (m : Need). outcome_by c.0 k b.0 (on_core c.0 r) m (told control sl out) (number_of sl.disp)) (sym need) ∙ ap (λ (y : Block). outcome_by c.0 k b.0 y n (told control sl out) (number_of sl.disp)) (sym is)))) in
       subst (Answers (entry_of c (slice_what b sl (k.clock + sl.advance))) s new) (sym turn) (answer_by sl.disp free e)
 
 -- the whole state afterwards

@@ -2,9 +2,9 @@ ghost use Rattle.std.specs.Prelude.{◌≡◌, ℕ, Option};
 ghost use Rattle.std.specs.Option.{option_copied};
 ghost use Rattle.dc_base.specs.States.{Block};
 
+use dc_base::numbers::BlockNo;
 use dc_kernel::Driver;
 use dc_objects::{BlockState, Objects};
-use dc_base::numbers::BlockNo;
 
 /// Blocks by number: those in their places, or those that an actor holds.
 pub trait Blocks<D: Driver> {

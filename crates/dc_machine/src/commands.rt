@@ -58,7 +58,13 @@ fn route<D: Driver>(objects: &mut Objects<D>, l: LineNo, core: CoreNo) -> Steppe
 }
 
 /// A poll of a console.
-fn poll<D: Driver>(objects: &mut Objects<D>, polls: &mut u32, b: BlockNo, words: u32, limit: u32) -> Stepped
+fn poll<D: Driver>(
+    objects: &mut Objects<D>,
+    polls: &mut u32,
+    b: BlockNo,
+    words: u32,
+    limit: u32,
+) -> Stepped
     requires block { b.0 < length objects.old.consoles.items }
     requires polls { polls.old ≤ 1000000000 }
     requires limit { limit ≤ 1000000000 }

@@ -89,7 +89,12 @@ fn wake<D: Driver>(objects: &mut Objects<D>, c: CoreNo, b: BlockNo, d: DispNo) -
 }
 
 /// A core wakes dispatcher `d` of block `b`, if it can go on.
-pub(crate) fn wake_turn<D: Driver>(objects: &mut Objects<D>, c: CoreNo, b: BlockNo, d: DispNo) -> Stepped
+pub(crate) fn wake_turn<D: Driver>(
+    objects: &mut Objects<D>,
+    c: CoreNo,
+    b: BlockNo,
+    d: DispNo,
+) -> Stepped
     requires sound { IsSound (state_of objects.old) }
     requires core { c.0 < length objects.old.cores.items }
     requires block { b.0 < length objects.old.blocks.items }

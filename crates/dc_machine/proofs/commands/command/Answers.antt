@@ -30,7 +30,7 @@ returns-in-Route-clause-step g c =
     let new = state_of c.route.new.objects in
     let p = c.args.polls.now in
     subst (λ (r : Stepped). Answers r s new (outcome s (command_turn s.script p (Some c.args.line)))) (sym c.without_poll-in-Route.ensures.same)
-      (subst (λ (y : ScriptLine). Answers c.route.result s new (outcome s (command_turn s.script p (Some y)))) (sym c.in-Route.is) (c.route.ensures.step p))
+    (subst (λ (y : ScriptLine). Answers c.route.result s new (outcome s (command_turn s.script p (Some y)))) (sym c.in-Route.is) (c.route.ensures.step p))
 
 pub returns-in-Route-clause-polls : goal.returns-in-Route-clause-polls
 returns-in-Route-clause-polls g c =
@@ -39,5 +39,5 @@ returns-in-Route-clause-polls g c =
     let p = c.args.polls.now in
     c.without_poll-in-Route.ensures.polls
     ∙ quiet_script c.route.result s new p (outcome s (command_turn s.script p (Some c.args.line)))
-      (subst (λ (y : ScriptLine). Answers c.route.result s new (outcome s (command_turn s.script p (Some y)))) (sym c.in-Route.is) (c.route.ensures.step p))
-      c.route.ensures.quiet
+    (subst (λ (y : ScriptLine). Answers c.route.result s new (outcome s (command_turn s.script p (Some y)))) (sym c.in-Route.is) (c.route.ensures.step p))
+    c.route.ensures.quiet

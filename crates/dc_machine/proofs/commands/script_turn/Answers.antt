@@ -48,8 +48,8 @@ returns-in-Some-line-clause-step g c =
     let p = c.args.polls.now in
     let e = sym (ap (λ q. slice_get s.script.lines q) c.place.ensures.value) ∙ sym c.line.ensures ∙ c.in-Some-line.is in
     answers_as c.command.result s new (core_step s p actor.Script action.Script) _
-      (goes_on s p (sym c.if-is_over.ensures) (sym c.raise_above.ensures ∙ c.in_default.is) ∙ ap (λ o. outcome s (command_turn s.script p o)) e)
-      c.command.ensures.step
+    (goes_on s p (sym c.if-is_over.ensures) (sym c.raise_above.ensures ∙ c.in_default.is) ∙ ap (λ o. outcome s (command_turn s.script p o)) e)
+    c.command.ensures.step
 
 pub returns-in-Some-line-clause-polls : goal.returns-in-Some-line-clause-polls
 returns-in-Some-line-clause-polls g c =
@@ -57,18 +57,18 @@ returns-in-Some-line-clause-polls g c =
     let p = c.args.polls.now in
     let e = sym (ap (λ q. slice_get s.script.lines q) c.place.ensures.value) ∙ sym c.line.ensures ∙ c.in-Some-line.is in
     c.command.ensures.polls ∙ sym (ap (λ o. polls_then action.Script p o)
-      (goes_on s p (sym c.if-is_over.ensures) (sym c.raise_above.ensures ∙ c.in_default.is) ∙ ap (λ o. outcome s (command_turn s.script p o)) e))
+    (goes_on s p (sym c.if-is_over.ensures) (sym c.raise_above.ensures ∙ c.in_default.is) ∙ ap (λ o. outcome s (command_turn s.script p o)) e))
 
 pub returns-in-None-clause-step : goal.returns-in-None-clause-step
 returns-in-None-clause-step g c =
     let s = state_of c.args.objects.now in
     let p = c.args.polls.now in
     refuses s reason.ScriptEnded (core_step s p actor.Script action.Script)
-      (goes_on s p (sym c.if-is_over.ensures) (sym c.raise_above.ensures ∙ c.in_default.is) ∙ no_line s p (sym (ap (λ q. slice_get s.script.lines q) c.place.ensures.value) ∙ sym c.line.ensures ∙ c.in-None.is))
+    (goes_on s p (sym c.if-is_over.ensures) (sym c.raise_above.ensures ∙ c.in_default.is) ∙ no_line s p (sym (ap (λ q. slice_get s.script.lines q) c.place.ensures.value) ∙ sym c.line.ensures ∙ c.in-None.is))
 
 pub returns-in-None-clause-polls : goal.returns-in-None-clause-polls
 returns-in-None-clause-polls g c =
     let s = state_of c.args.objects.now in
     let p = c.args.polls.now in
     unchanged action.Script p reason.ScriptEnded (core_step s p actor.Script action.Script)
-      (goes_on s p (sym c.if-is_over.ensures) (sym c.raise_above.ensures ∙ c.in_default.is) ∙ no_line s p (sym (ap (λ q. slice_get s.script.lines q) c.place.ensures.value) ∙ sym c.line.ensures ∙ c.in-None.is)) tt
+    (goes_on s p (sym c.if-is_over.ensures) (sym c.raise_above.ensures ∙ c.in_default.is) ∙ no_line s p (sym (ap (λ q. slice_get s.script.lines q) c.place.ensures.value) ∙ sym c.line.ensures ∙ c.in-None.is)) tt

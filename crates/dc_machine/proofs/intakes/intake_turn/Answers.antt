@@ -17,7 +17,7 @@ returns-then-is_none-clause-step g c =
     let s = state_of c.args.objects.now in
     let k = c.index-core.result.now in
     core_answers s s c.args.c (action.Intake c.args.l) k _ (at_index s.cores c.args.c.0 k c.requires.core c.index-core.ensures)
-      (refuses s reason.CoreOff (outcome s (intake_turn c.args.c.0 k c.args.l.0)) (core_off s c.args.c.0 k c.args.l.0 (sym (ap (λ v. is_some v) c.version.ensures) ∙ c.if-is_none.ensures)))
+    (refuses s reason.CoreOff (outcome s (intake_turn c.args.c.0 k c.args.l.0)) (core_off s c.args.c.0 k c.args.l.0 (sym (ap (λ v. is_some v) c.version.ensures) ∙ c.if-is_none.ensures)))
 
 pub take_in-requires-clause-line : goal.take_in-requires-clause-line
 take_in-requires-clause-line g c κs within =
@@ -41,10 +41,10 @@ returns-in-Ok-clause-step g c =
     let t = c.in-Ok.ensures.taken in
     let line = at_index s.lines c.args.l.0 w c.requires.line c.index.ensures in
     core_answers s (state_of c.take_in.new.objects) c.args.c (action.Intake c.args.l) k c.take_in.result (at_index s.cores c.args.c.0 k c.requires.core c.index-core.ensures)
-      (answers_as c.take_in.result s (state_of c.take_in.new.objects) (outcome s (intake_turn c.args.c.0 k c.args.l.0)) (intake_outcome c.args.c.0 c.args.l.0 w p.number p.block.0 p.signal.0 (slice_get s.blocks p.block.0))
-        (core_on s c.args.c.0 k c.args.l.0 w (sym (ap (λ v. is_some v) c.version.ensures) ∙ c.if-is_none.ensures) line
-          ∙ pending_acts s c.args.c.0 k c.args.l.0 w p.number p.block.0 p.signal.0 t.bound t.number t.route t.here)
-        (c.take_in.ensures.step w line))
+    (answers_as c.take_in.result s (state_of c.take_in.new.objects) (outcome s (intake_turn c.args.c.0 k c.args.l.0)) (intake_outcome c.args.c.0 c.args.l.0 w p.number p.block.0 p.signal.0 (slice_get s.blocks p.block.0))
+    (core_on s c.args.c.0 k c.args.l.0 w (sym (ap (λ v. is_some v) c.version.ensures) ∙ c.if-is_none.ensures) line
+    ∙ pending_acts s c.args.c.0 k c.args.l.0 w p.number p.block.0 p.signal.0 t.bound t.number t.route t.here)
+    (c.take_in.ensures.step w line))
 
 pub returns-in-Err-clause-step : goal.returns-in-Err-clause-step
 returns-in-Err-clause-step g c =
@@ -52,6 +52,6 @@ returns-in-Err-clause-step g c =
     let k = c.index-core.result.now in
     let w = c.index.result.now in
     core_answers s s c.args.c (action.Intake c.args.l) k _ (at_index s.cores c.args.c.0 k c.requires.core c.index-core.ensures)
-      (refuses s c.in-Err.why (outcome s (intake_turn c.args.c.0 k c.args.l.0))
-        (core_on s c.args.c.0 k c.args.l.0 w (sym (ap (λ v. is_some v) c.version.ensures) ∙ c.if-is_none.ensures) (at_index s.lines c.args.l.0 w c.requires.line c.index.ensures)
-          ∙ ap (λ t. outcome s t) (c.in-Err.ensures.refused c.args.l.0)))
+    (refuses s c.in-Err.why (outcome s (intake_turn c.args.c.0 k c.args.l.0))
+    (core_on s c.args.c.0 k c.args.l.0 w (sym (ap (λ v. is_some v) c.version.ensures) ∙ c.if-is_none.ensures) (at_index s.lines c.args.l.0 w c.requires.line c.index.ensures)
+    ∙ ap (λ t. outcome s t) (c.in-Err.ensures.refused c.args.l.0)))

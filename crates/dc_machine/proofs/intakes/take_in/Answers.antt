@@ -12,7 +12,7 @@ intake-latched-requires-clause-signal g c κs within =
     let w = c.requires.line in
     let x = c.requires.block in
     signal_there s c.args.l.0 c.args.p.block.0 c.args.p.signal.0 w.0 c.index_mut.result.now c.requires.sound w.1 w.2
-      (at_index s.blocks c.args.p.block.0 c.index_mut.result.now (slice_get_within s.blocks c.args.p.block.0 x.0 x.1) c.index_mut.ensures.value)
+    (at_index s.blocks c.args.p.block.0 c.index_mut.result.now (slice_get_within s.blocks c.args.p.block.0 x.0 x.1) c.index_mut.ensures.value)
 
 pub index_mut-requires-2 : goal.index_mut-requires-2
 index_mut-requires-2 g c =
@@ -42,6 +42,6 @@ returns-clause-step g c = λ w e.
     let v = c.index_mut-2.result.now in
     let there = at_index s.lines c.args.l.0 v (slice_get_within s.lines c.args.l.0 w e) c.index_mut-2.ensures.value in
     taken_in s c.args.c c.args.l w c.intake.new.self c.args.p.number c.args.p.block c.args.p.signal y c.intake-latched.new.self c.intake-latched.result
-      (at_index s.blocks c.args.p.block.0 y (slice_get_within s.blocks c.args.p.block.0 x.0 x.1) c.index_mut.ensures.value)
-      c.intake-latched.ensures.how c.intake-latched.ensures.block
-      (c.intake.ensures ∙ ap (λ u. wire_after_intake c.intake-latched.result u) (line_is s c.args.l.0 v w there e))
+    (at_index s.blocks c.args.p.block.0 y (slice_get_within s.blocks c.args.p.block.0 x.0 x.1) c.index_mut.ensures.value)
+    c.intake-latched.ensures.how c.intake-latched.ensures.block
+    (c.intake.ensures ∙ ap (λ u. wire_after_intake c.intake-latched.result u) (line_is s c.args.l.0 v w there e))

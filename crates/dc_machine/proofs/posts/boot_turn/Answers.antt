@@ -13,5 +13,5 @@ returns-in-Err-clause-step g c =
     let command = c.args.command.now in
     let e = ap (λ r. refusal r command) (sym c.registry.ensures) ∙ c.in-Err.ensures.refused in
     answers_as c.refuse.result s (state_of c.refuse.new.objects) (outcome s (boot_turn s.script command s.script.posts)) (outcome s (begin s.script command (Some c.in-Err.refusal)))
-      (refused_turn s command c.in-Err.refusal e (not_begun s command c.requires.sound c.requires.command c.in-Err.refusal e))
-      (c.refuse.ensures.step command)
+    (refused_turn s command c.in-Err.refusal e (not_begun s command c.requires.sound c.requires.command c.in-Err.refusal e))
+    (c.refuse.ensures.step command)

@@ -19,15 +19,15 @@ pub returns-then-place-first_unbegun-clause-step : goal.returns-then-place-first
 returns-then-place-first_unbegun-clause-step g c = λ polls.
     let s = state_of c.args.objects.now in
     refuses s reason.CommandFirst (core_step s polls actor.Script action.Raise)
-      (command_first s polls c.in-Some.place (sym c.next_raise.ensures ∙ c.in-Some.is) (subst (λ n. n < c.in-Some.place) c.first_unbegun.ensures c.if-place-first_unbegun.true))
+    (command_first s polls c.in-Some.place (sym c.next_raise.ensures ∙ c.in-Some.is) (subst (λ n. n < c.in-Some.place) c.first_unbegun.ensures c.if-place-first_unbegun.true))
 
 pub returns-in_default-raised_line-clause-step : goal.returns-in_default-raised_line-clause-step
 returns-in_default-raised_line-clause-step g c = λ polls.
     let s = state_of c.args.objects.now in
     let q = c.in-Some.place in
     refuses s reason.NoRaise (core_step s polls actor.Script action.Raise)
-      (raise_at s polls q (sym c.next_raise.ensures ∙ c.in-Some.is) (subst (λ n. q ≤ n) c.first_unbegun.ensures c.if-place-first_unbegun.false)
-        ∙ no_raise_line s q (slice_get s.script.lines q) (sym c.raised_line.ensures ∙ c.in_default-raised_line.is))
+    (raise_at s polls q (sym c.next_raise.ensures ∙ c.in-Some.is) (subst (λ n. q ≤ n) c.first_unbegun.ensures c.if-place-first_unbegun.false)
+    ∙ no_raise_line s q (slice_get s.script.lines q) (sym c.raised_line.ensures ∙ c.in_default-raised_line.is))
 
 pub index_mut-requires : goal.index_mut-requires
 index_mut-requires g c =
@@ -54,6 +54,6 @@ returns-clause-step g c = λ polls.
     let there = at_index s.lines l.0 w (raised_there s q l c.requires e) c.index_mut.ensures.value in
     let new = record s { lines = slice_set s.lines l.0 c.raise-raised.new.self; script = c.raised.new.self } in
     answers_as c.by_script.result s new (core_step s polls actor.Script action.Raise) (raise_on s.script q l (Some w))
-      (raise_at s polls q (sym c.next_raise.ensures ∙ c.in-Some.is) (subst (λ n. q ≤ n) c.first_unbegun.ensures c.if-place-first_unbegun.false)
-        ∙ raise_is s polls q l w e there)
-      (made s q l w c.raise-raised.new.self c.raise-raised.result c.raised.new.self c.by_script.result c.by_script.ensures c.raise-raised.ensures.raised c.raise-raised.ensures.after c.raised.ensures)
+    (raise_at s polls q (sym c.next_raise.ensures ∙ c.in-Some.is) (subst (λ n. q ≤ n) c.first_unbegun.ensures c.if-place-first_unbegun.false)
+    ∙ raise_is s polls q l w e there)
+    (made s q l w c.raise-raised.new.self c.raise-raised.result c.raised.new.self c.by_script.result c.by_script.ensures c.raise-raised.ensures.raised c.raise-raised.ensures.after c.raised.ensures)

@@ -131,13 +131,13 @@ returns-clause-step g c k at =
     let block = c.slice-outside.ensures.whereabouts ∙ ap (with_control c.slice-outside.new.self.control) is in
     let blocks = blocks_kept _ c.put_outside.new.objects c.put_outside.ensures.rest ∙ (ap (λ (xs : List Block). slice_set xs c.args.b.0 c.slice-outside.new.self) (blocks_kept c.args.objects.now c.take_outside-outside.new.objects c.take_outside-outside.ensures.rest) ∙ ap (slice_set s.blocks c.args.b.0) block) in
     sliced s _ c.args.c k c.args.b x.0 c.args.forward.now.need c.slice-outside.new.self.control c.slice-outside.result.0 out c.slice_what.result after x.1 x.2.here f.need
-        (looked_done s c.args.c.0 k c.args.b.0 c.args.forward.now.need o (running_of x.0) t f.need c.take_outside-outside.ensures.object now) c.slice_what.ensures ends
-        (record {
-          cores = ap (λ (ks : List Core). slice_set ks c.args.c.0 c.ran.new.self) cores ∙ ap (slice_set s.cores c.args.c.0) ran;
-          blocks = blocks;
-          channels = outs.channels;
-          lines = outs.lines;
-          consoles = outs.consoles;
-          mailboxes = mailboxes_kept _ c.put_outside.new.objects c.put_outside.ensures.rest ∙ mailboxes_kept c.args.objects.now c.take_outside-outside.new.objects c.take_outside-outside.ensures.rest;
-          script = c.put_outside.ensures.rest.script ∙ c.take_outside-outside.ensures.rest.script;
-        })
+    (looked_done s c.args.c.0 k c.args.b.0 c.args.forward.now.need o (running_of x.0) t f.need c.take_outside-outside.ensures.object now) c.slice_what.ensures ends
+    (record {
+      cores = ap (λ (ks : List Core). slice_set ks c.args.c.0 c.ran.new.self) cores ∙ ap (slice_set s.cores c.args.c.0) ran;
+      blocks = blocks;
+      channels = outs.channels;
+      lines = outs.lines;
+      consoles = outs.consoles;
+      mailboxes = mailboxes_kept _ c.put_outside.new.objects c.put_outside.ensures.rest ∙ mailboxes_kept c.args.objects.now c.take_outside-outside.new.objects c.take_outside-outside.ensures.rest;
+      script = c.put_outside.ensures.rest.script ∙ c.take_outside-outside.ensures.rest.script;
+    })

@@ -20,16 +20,16 @@ returns-in-Some-clause-step g c =
     let k = c.index-core.result.now in
     let t = if_here k.share c.args.b.0 (look_block c.args.b.0 (wake_in c.args.c.0 k c.args.b.0 c.args.d.0)) in
     core_answers s s c.args.c (action.Wake c.args.b c.args.d) k c.in-Some.stop (at_index s.cores c.args.c.0 k c.requires.core c.index-core.ensures)
-      (stops s k t c.in-Some.stop (sym c.stopped.ensures ∙ c.in-Some.is))
+    (stops s k t c.in-Some.stop (sym c.stopped.ensures ∙ c.in-Some.is))
 
 pub returns-then-not-contains-clause-step : goal.returns-then-not-contains-clause-step
 returns-then-not-contains-clause-step g c =
     let s = state_of c.args.objects.now in
     let k = c.index-core.result.now in
     core_answers s s c.args.c (action.Wake c.args.b c.args.d) k _ (at_index s.cores c.args.c.0 k c.requires.core c.index-core.ensures)
-      (refuses s (reason.NotHere c.args.b) (outcome s (wake_turn c.args.c.0 k c.args.b.0 c.args.d.0))
-        (not_here s c.args.c.0 k c.args.b.0 c.args.d.0 (sym c.stopped.ensures ∙ c.in_default.is)
-          (sym (ap (λ l. has l c.args.b.0) c.share.ensures) ∙ sym c.contains.ensures.value ∙ c.if-not-contains.true)))
+    (refuses s (reason.NotHere c.args.b) (outcome s (wake_turn c.args.c.0 k c.args.b.0 c.args.d.0))
+    (not_here s c.args.c.0 k c.args.b.0 c.args.d.0 (sym c.stopped.ensures ∙ c.in_default.is)
+    (sym (ap (λ l. has l c.args.b.0) c.share.ensures) ∙ sym c.contains.ensures.value ∙ c.if-not-contains.true)))
 
 pub channel_wait-requires-after_bounds : goal.channel_wait-requires-after_bounds
 channel_wait-requires-after_bounds g c κs within =
@@ -42,18 +42,18 @@ returns-in_default-channel_wait-clause-step g c =
     let k = c.index-core.result.now in
     let x = c.index.result.now in
     core_answers s s c.args.c (action.Wake c.args.b c.args.d) k _ (at_index s.cores c.args.c.0 k c.requires.core c.index-core.ensures)
-      (refuses s reason.NotWaiting (outcome s (wake_turn c.args.c.0 k c.args.b.0 c.args.d.0))
-        (is_here s c.args.c.0 k c.args.b.0 c.args.d.0 (sym c.stopped.ensures ∙ c.in_default.is) x
-          (sym (ap (λ l. has l c.args.b.0) c.share.ensures) ∙ sym c.contains.ensures.value ∙ c.if-not-contains.false)
-          (at_index s.blocks c.args.b.0 x c.requires.block c.index.ensures)
-        ∙ not_waiting s c.args.c.0 k c.args.b.0 c.args.d.0 x (slice_get x.control.states c.args.d.0) (sym c.channel_wait.ensures ∙ c.in_default-channel_wait.is)))
+    (refuses s reason.NotWaiting (outcome s (wake_turn c.args.c.0 k c.args.b.0 c.args.d.0))
+    (is_here s c.args.c.0 k c.args.b.0 c.args.d.0 (sym c.stopped.ensures ∙ c.in_default.is) x
+    (sym (ap (λ l. has l c.args.b.0) c.share.ensures) ∙ sym c.contains.ensures.value ∙ c.if-not-contains.false)
+    (at_index s.blocks c.args.b.0 x c.requires.block c.index.ensures)
+    ∙ not_waiting s c.args.c.0 k c.args.b.0 c.args.d.0 x (slice_get x.control.states c.args.d.0) (sym c.channel_wait.ensures ∙ c.in_default-channel_wait.is)))
 
 pub index-requires-2 : goal.index-requires-2
 index-requires-2 g c =
     let s = state_of c.args.objects.now in
     let x = c.index.result.now in
     subst (λ m. c.channel_of.result.0 < m) (sym c.args.objects.now.channels.ok.0) (subst (λ (n : _). n.0 < length s.channels) (sym c.channel_of.ensures)
-      (waits_there s c.args.b.0 x c.args.d.0 c.in-Some-channel_wait.wait c.requires.sound (at_index s.blocks c.args.b.0 x c.requires.block c.index.ensures) (sym c.channel_wait.ensures ∙ c.in-Some-channel_wait.is)))
+    (waits_there s c.args.b.0 x c.args.d.0 c.in-Some-channel_wait.wait c.requires.sound (at_index s.blocks c.args.b.0 x c.requires.block c.index.ensures) (sym c.channel_wait.ensures ∙ c.in-Some-channel_wait.is)))
 
 pub returns-then-not-goes_on-clause-step : goal.returns-then-not-goes_on-clause-step
 returns-then-not-goes_on-clause-step g c =
@@ -63,15 +63,15 @@ returns-then-not-goes_on-clause-step g c =
     let w = c.in-Some-channel_wait.wait in
     let r = c.index-2.result.now in
     core_answers s s c.args.c (action.Wake c.args.b c.args.d) k _ (at_index s.cores c.args.c.0 k c.requires.core c.index-core.ensures)
-      (refuses s reason.StillWaits (outcome s (wake_turn c.args.c.0 k c.args.b.0 c.args.d.0))
-        (is_here s c.args.c.0 k c.args.b.0 c.args.d.0 (sym c.stopped.ensures ∙ c.in_default.is) x
-          (sym (ap (λ l. has l c.args.b.0) c.share.ensures) ∙ sym c.contains.ensures.value ∙ c.if-not-contains.false)
-          (at_index s.blocks c.args.b.0 x c.requires.block c.index.ensures)
-        ∙ waiting s c.args.c.0 k c.args.b.0 c.args.d.0 x (slice_get x.control.states c.args.d.0) w (sym c.channel_wait.ensures ∙ c.in-Some-channel_wait.is)
-        ∙ ap (woken c.args.c.0 k c.args.b.0 c.args.d.0 x w) (ap (λ n. slice_get s.channels n.0) (sym c.channel_of.ensures) ∙ at_index s.channels c.channel_of.result.0 r
-            (subst (λ (n : _). n.0 < length s.channels) (sym c.channel_of.ensures) (waits_there s c.args.b.0 x c.args.d.0 w c.requires.sound (at_index s.blocks c.args.b.0 x c.requires.block c.index.ensures) (sym c.channel_wait.ensures ∙ c.in-Some-channel_wait.is)))
-            c.index-2.ensures)
-        ∙ still_waits s c.args.c.0 k c.args.b.0 c.args.d.0 x w r (sym c.goes_on.ensures ∙ c.if-not-goes_on.true)))
+    (refuses s reason.StillWaits (outcome s (wake_turn c.args.c.0 k c.args.b.0 c.args.d.0))
+    (is_here s c.args.c.0 k c.args.b.0 c.args.d.0 (sym c.stopped.ensures ∙ c.in_default.is) x
+    (sym (ap (λ l. has l c.args.b.0) c.share.ensures) ∙ sym c.contains.ensures.value ∙ c.if-not-contains.false)
+    (at_index s.blocks c.args.b.0 x c.requires.block c.index.ensures)
+    ∙ waiting s c.args.c.0 k c.args.b.0 c.args.d.0 x (slice_get x.control.states c.args.d.0) w (sym c.channel_wait.ensures ∙ c.in-Some-channel_wait.is)
+    ∙ ap (woken c.args.c.0 k c.args.b.0 c.args.d.0 x w) (ap (λ n. slice_get s.channels n.0) (sym c.channel_of.ensures) ∙ at_index s.channels c.channel_of.result.0 r
+    (subst (λ (n : _). n.0 < length s.channels) (sym c.channel_of.ensures) (waits_there s c.args.b.0 x c.args.d.0 w c.requires.sound (at_index s.blocks c.args.b.0 x c.requires.block c.index.ensures) (sym c.channel_wait.ensures ∙ c.in-Some-channel_wait.is)))
+    c.index-2.ensures)
+    ∙ still_waits s c.args.c.0 k c.args.b.0 c.args.d.0 x w r (sym c.goes_on.ensures ∙ c.if-not-goes_on.true)))
 
 pub wake-requires-clause-core : goal.wake-requires-clause-core
 wake-requires-clause-core g c κs within =
@@ -88,7 +88,7 @@ wake-requires-clause-block g c κs within =
     let there = at_index s.blocks c.args.b.0 x c.requires.block c.index.ensures in
     let e = sym c.channel_wait.ensures ∙ c.in-Some-channel_wait.is in
     let h = here s c.args.c.0 k c.args.b.0 c.requires.sound (at_index s.cores c.args.c.0 k c.requires.core c.index-core.ensures)
-        (sym (ap (λ l. has l c.args.b.0) c.share.ensures) ∙ sym c.contains.ensures.value ∙ c.if-not-contains.false) in
+    (sym (ap (λ l. has l c.args.b.0) c.share.ensures) ∙ sym c.contains.ensures.value ∙ c.if-not-contains.false) in
     (x, there, held_as h.block x (sym h.there ∙ there) h.held, waits_so e)
 
 pub returns-clause-step : goal.returns-clause-step
@@ -101,13 +101,13 @@ returns-clause-step g c =
     let core = at_index s.cores c.args.c.0 k c.requires.core c.index-core.ensures in
     let block = at_index s.blocks c.args.b.0 x c.requires.block c.index.ensures in
     core_answers s (state_of c.wake.new.objects) c.args.c (action.Wake c.args.b c.args.d) k c.wake.result core
-      (answers_as c.wake.result s (state_of c.wake.new.objects) (outcome s (wake_turn c.args.c.0 k c.args.b.0 c.args.d.0)) (after_wake c.args.c.0 k c.args.b.0 c.args.d.0 x)
-        (is_here s c.args.c.0 k c.args.b.0 c.args.d.0 (sym c.stopped.ensures ∙ c.in_default.is) x
-          (sym (ap (λ l. has l c.args.b.0) c.share.ensures) ∙ sym c.contains.ensures.value ∙ c.if-not-contains.false)
-          block
-        ∙ waiting s c.args.c.0 k c.args.b.0 c.args.d.0 x (slice_get x.control.states c.args.d.0) w (sym c.channel_wait.ensures ∙ c.in-Some-channel_wait.is)
-        ∙ ap (woken c.args.c.0 k c.args.b.0 c.args.d.0 x w) (ap (λ n. slice_get s.channels n.0) (sym c.channel_of.ensures) ∙ at_index s.channels c.channel_of.result.0 r
-            (subst (λ (n : _). n.0 < length s.channels) (sym c.channel_of.ensures) (waits_there s c.args.b.0 x c.args.d.0 w c.requires.sound block (sym c.channel_wait.ensures ∙ c.in-Some-channel_wait.is)))
-            c.index-2.ensures)
-        ∙ wakes s c.args.c.0 k c.args.b.0 c.args.d.0 x w r (sym c.goes_on.ensures ∙ c.if-not-goes_on.false))
-        (c.wake.ensures.step k x core block))
+    (answers_as c.wake.result s (state_of c.wake.new.objects) (outcome s (wake_turn c.args.c.0 k c.args.b.0 c.args.d.0)) (after_wake c.args.c.0 k c.args.b.0 c.args.d.0 x)
+    (is_here s c.args.c.0 k c.args.b.0 c.args.d.0 (sym c.stopped.ensures ∙ c.in_default.is) x
+    (sym (ap (λ l. has l c.args.b.0) c.share.ensures) ∙ sym c.contains.ensures.value ∙ c.if-not-contains.false)
+    block
+    ∙ waiting s c.args.c.0 k c.args.b.0 c.args.d.0 x (slice_get x.control.states c.args.d.0) w (sym c.channel_wait.ensures ∙ c.in-Some-channel_wait.is)
+    ∙ ap (woken c.args.c.0 k c.args.b.0 c.args.d.0 x w) (ap (λ n. slice_get s.channels n.0) (sym c.channel_of.ensures) ∙ at_index s.channels c.channel_of.result.0 r
+    (subst (λ (n : _). n.0 < length s.channels) (sym c.channel_of.ensures) (waits_there s c.args.b.0 x c.args.d.0 w c.requires.sound block (sym c.channel_wait.ensures ∙ c.in-Some-channel_wait.is)))
+    c.index-2.ensures)
+    ∙ wakes s c.args.c.0 k c.args.b.0 c.args.d.0 x w r (sym c.goes_on.ensures ∙ c.if-not-goes_on.false))
+    (c.wake.ensures.step k x core block))

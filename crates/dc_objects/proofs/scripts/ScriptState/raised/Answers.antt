@@ -9,7 +9,7 @@ use Rattle.dc_objects.proofs.scripts.ScriptState.raised.Goals as goal
 pub invariant_of-self : goal.invariant_of-self
 invariant_of-self c = let i = c.self.inside in let r = c.raise_at-self-inside in
     raise_made i.lines i.place i.raises i.next r.result c.self.invariant
-      (subst (λ (t : Script). IsSome (next_raise t.lines t.raises)) (sym c.self.view_is) c.requires)
-      (r.ensures.value ∙ ap (λ ls. raise_place ls (i.next + 1)) c.as_slice.ensures)
-      (subst (λ (ls : List ScriptLine). r.result ≤ length ls) c.as_slice.ensures r.ensures.within)
-      r.ensures.past
+    (subst (λ (t : Script). IsSome (next_raise t.lines t.raises)) (sym c.self.view_is) c.requires)
+    (r.ensures.value ∙ ap (λ ls. raise_place ls (i.next + 1)) c.as_slice.ensures)
+    (subst (λ (ls : List ScriptLine). r.result ≤ length ls) c.as_slice.ensures r.ensures.within)
+    r.ensures.past
