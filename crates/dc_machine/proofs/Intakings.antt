@@ -3,7 +3,6 @@ use Rattle.std.proofs.Common.{◌≡◌, ℕ, ◌<◌, Bool, true, false, Option
 use Rattle.std.specs.Prelude.{slice_get, slice_set, is_some, if◌then◌else◌, IfSome}
 use Rattle.std.specs.Option.{option_map}
 use Rattle.dc_base.specs.declared.actions.Actor.TheVariants as actor
-use Rattle.dc_base.specs.declared.entries.Reason.{Reason}
 use Rattle.dc_base.specs.declared.entries.Reason.TheVariants as reason
 use Rattle.dc_base.specs.declared.entries.What.TheVariants as what
 use Rattle.dc_base.specs.declared.interrupts.Latched.{Latched}

@@ -1,5 +1,5 @@
 -- What a boot command comes to, by its posts.
-use Rattle.std.proofs.Common.{◌≡◌, ℕ, zero, suc, ◌<◌, ◌≤◌, ◌-◌, List, [], ◌∷◌, ◌++◌, Option, Some, None, Bool, true, false, refl, sym, ap, ◌∙◌, subst, arith, length}
+use Rattle.std.proofs.Common.{◌≡◌, ℕ, zero, suc, ◌<◌, ◌≤◌, ◌-◌, [], ◌∷◌, ◌++◌, Option, Some, None, true, false, refl, ap, ◌∙◌, subst, arith, length}
 use Rattle.std.specs.Prelude.{slice_get, slice_set}
 use Rattle.std.specs.Option.{option_map_or}
 use Rattle.dc_base.specs.declared.commands.Command.{Command}
@@ -8,7 +8,7 @@ use Rattle.dc_base.specs.declared.commands.Order.{Order}
 use Rattle.dc_base.specs.declared.commands.Refusal.{Refusal}
 use Rattle.dc_base.specs.declared.commands.ScriptLine.TheVariants as line
 use Rattle.dc_base.specs.declared.entries.Reason.TheVariants as reason
-use Rattle.dc_base.specs.Boot.{Registry, core_of, orders, refusal, to_its_core}
+use Rattle.dc_base.specs.Boot.{Registry, core_of, orders, refusal}
 use Rattle.dc_base.specs.Changes.{mailbox_becomes}
 use Rattle.dc_base.specs.Commands.{begin, boot_turn, go_on_from, post, post_or_done, with_ack}
 use Rattle.dc_base.specs.Progress.{boot_command, command_at}

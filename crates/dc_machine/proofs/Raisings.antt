@@ -1,6 +1,6 @@
 -- What a raise comes to, by the script's next raise.
-use Rattle.std.proofs.Common.{suc, subst, ◌+◌, ◌≡◌, ℕ, ◌<◌, ◌≤◌, Option, Some, None, refl, sym, ap, ◌∙◌, arith, length, List, [], ◌∷◌, Bool, true, false}
-use Rattle.std.specs.Prelude.{slice_get, slice_set, nat_lt, not, ◌^◌, ◌-◌, if◌then◌else◌}
+use Rattle.std.proofs.Common.{suc, subst, ◌+◌, ◌≡◌, ℕ, ◌<◌, ◌≤◌, Option, Some, None, refl, sym, ap, ◌∙◌, arith, length, Bool}
+use Rattle.std.specs.Prelude.{slice_get, slice_set, not, ◌^◌, ◌-◌, if◌then◌else◌}
 use Rattle.std.proofs.lemmas.Bool.{lt-leb, le-leb}
 use Rattle.std.proofs.lemmas.List.Sums.{count_by-le-length}
 use Rattle.dc_base.specs.declared.actions.Actor.TheVariants as actor
@@ -20,11 +20,9 @@ use Rattle.dc_machine.specs.Answers.{Answers}
 use Rattle.dc_machine.specs.Raised.{raised_by}
 use Rattle.dc_base.specs.Raises.{first_unbegun, raise_line, raise_on, raise_turn}
 use Rattle.dc_base.specs.Script.{next_raise, is_command}
-use Rattle.dc_base.specs.ScriptForm.{raise_lines}
 use Rattle.dc_base.specs.Sound.{IsSound}
 use Rattle.dc_base.specs.States.{State, Script}
 use Rattle.dc_base.specs.Turns.{ends, not_enabled, outcome}
-use Rattle.dc_base.specs.Words.{count_of}
 
 module _ (s : State) (polls : ℕ) where
   pub raises : core_step s polls actor.Script action.Raise ≡ outcome s (raise_turn s.script (next_raise s.script.lines s.script.raises))

@@ -6,7 +6,7 @@ use Rattle.dc_base.specs.declared.actions.Actor.TheVariants as actor
 use Rattle.dc_base.specs.declared.actions.Action.TheVariants as action
 use Rattle.dc_base.specs.declared.entries.Reason.{Reason}
 use Rattle.dc_base.specs.declared.entries.Reason.TheVariants as reason
-use Rattle.dc_base.specs.Commands.{after_raises, command_turn, raise_above, script_turn}
+use Rattle.dc_base.specs.Commands.{after_raises, command_turn, raise_above}
 use Rattle.dc_base.specs.Cores.{core_step, turn_of}
 use Rattle.dc_base.specs.CoreRuns.{polls_after, polls_at}
 use Rattle.dc_base.specs.Script.{next_raise}

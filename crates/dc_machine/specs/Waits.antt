@@ -1,8 +1,7 @@
 -- Dispatchers that wait on a channel.
-use Rattle.std.specs.Prelude.{ℕ, nat_lt, Bool, false, not, Option, Some, None, length}
+use Rattle.std.specs.Prelude.{nat_lt, Bool, not, Option, Some, None, length}
 use Rattle.dc_base.specs.declared.dispatchers.DispState.{DispState}
 use Rattle.dc_base.specs.declared.dispatchers.DispState.TheVariants as disp
-use Rattle.dc_base.specs.declared.dispatchers.Wait.{Wait}
 use Rattle.dc_base.specs.declared.dispatchers.Wait.TheVariants as wait
 use Rattle.dc_base.specs.declared.numbers.ChanNo.{ChanNo}
 use Rattle.dc_base.specs.Channels.{Ring, is_full}

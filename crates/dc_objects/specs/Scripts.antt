@@ -1,7 +1,7 @@
 -- Where a script stands.
-use Rattle.std.specs.Prelude.{◌≡◌, ℕ, ◌+◌, ◌<◌, ◌≤◌, nat_le, nat_lt, List, [], ◌∷◌, Bool, not, ◌&&◌, Option, Some, None, if◌then◌else◌, length}
+use Rattle.std.specs.Prelude.{◌≡◌, ℕ, ◌+◌, ◌≤◌, nat_le, nat_lt, List, [], ◌∷◌, not, ◌&&◌, Option, Some, None, if◌then◌else◌, length}
 use Rattle.dc_base.specs.declared.commands.ScriptLine.{ScriptLine}
-use Rattle.dc_base.specs.Script.{is_command, next_command, next_raise}
+use Rattle.dc_base.specs.Script.{is_command, next_raise}
 
 -- the place of the first raise at q or later, where the first line of the list is line n; or the number of lines
 abbrev pub raise_place_from : ℕ → ℕ → List ScriptLine → ℕ

@@ -1,4 +1,4 @@
-use Rattle.std.proofs.Common.{◌≡◌, None, sym, ap, ◌∙◌, subst}
+use Rattle.std.proofs.Common.{sym, ap, ◌∙◌}
 use Rattle.std.specs.Prelude.{slice_get}
 use Rattle.dc_base.specs.declared.actions.Actor.TheVariants as actor
 use Rattle.dc_base.specs.declared.actions.Action.TheVariants as action

@@ -1,8 +1,7 @@
-use Rattle.std.proofs.Common.{◌≡◌, ℕ, ◌<◌, Option, Some, None, sym, ap, ◌∙◌, subst, length}
-use Rattle.std.specs.Prelude.{slice_get, slice_set}
+use Rattle.std.proofs.Common.{◌≡◌, ◌<◌, Some, None, sym, ap, ◌∙◌, subst, length}
+use Rattle.std.specs.Prelude.{slice_get}
 use Rattle.dc_base.specs.Orders.{block_under}
 use Rattle.dc_base.specs.Outcomes.{share_blocks}
-use Rattle.dc_base.specs.States.{Block}
 use Rattle.dc_objects.specs.Blocks.{IsTimed}
 use Rattle.dc_machine.proofs.ShareChanges.{block_at, none_at, block_timed, turn_made}
 use Rattle.dc_machine.proofs.handing.replace_all.Goals.{in-Some, in_default}

@@ -1,4 +1,4 @@
-use Rattle.std.proofs.Common.{◌<◌, ◌≡◌, Some, IsSome, sym, ap, ◌∙◌, subst}
+use Rattle.std.proofs.Common.{◌<◌, IsSome, sym, ap, ◌∙◌, subst}
 use Rattle.std.proofs.lemmas.Option.{slice_get_within}
 use Rattle.dc_base.specs.Lines.{Wire, wire_after_intake}
 use Rattle.dc_objects.specs.States.{state_of}

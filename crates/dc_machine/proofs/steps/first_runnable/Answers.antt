@@ -1,5 +1,5 @@
 -- The first block that can run.
-use Rattle.std.proofs.Common.{◌≡◌, ◌≤◌, ℕ, List, Option, Some, None, refl, sym, ap, ◌∙◌, subst, slice_get, length, arith}
+use Rattle.std.proofs.Common.{◌≡◌, ℕ, List, Option, Some, None, refl, sym, ap, ◌∙◌, subst, slice_get, length, arith}
 use Rattle.std.specs.Option.{option_map}
 use Rattle.dc_base.specs.Outcomes.{share_blocks}
 use Rattle.dc_base.specs.States.{Block, Core, Member}

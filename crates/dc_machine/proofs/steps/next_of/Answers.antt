@@ -1,11 +1,11 @@
 -- A slice of the first block that can run, or idle, or nothing.
-use Rattle.std.proofs.Common.{◌≡◌, ℕ, Option, Some, None, refl, sym, ap, ◌∙◌, subst}
+use Rattle.std.proofs.Common.{◌≡◌, ℕ, Option, Some, sym, ap, ◌∙◌, subst}
 use Rattle.std.specs.Option.{option_map}
 use Rattle.dc_base.specs.States.{Block, Core, Settings}
 use Rattle.dc_base.specs.Turns.{Looked}
 use Rattle.dc_kernel.specs.Forwards.{IsForward}
 use Rattle.dc_objects.specs.Blocks.{IsTimed, running_of}
-use Rattle.dc_machine.specs.InHand.{looked_in, IsInHand}
+use Rattle.dc_machine.specs.InHand.{looked_in}
 use Rattle.dc_machine.specs.Nexts.{first_runnable}
 use Rattle.dc_machine.proofs.Firsts.{first_is, hand_of, hand_has, no_number_found, no_number_at, seen_some, seen_none}
 use Rattle.dc_machine.proofs.steps.next_of.Goals.{in-Some+in_default-block, in_default}

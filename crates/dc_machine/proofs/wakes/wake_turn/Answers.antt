@@ -1,4 +1,4 @@
-use Rattle.std.proofs.Common.{◌≡◌, ◌<◌, Some, None, true, false, refl, sym, ap, ◌∙◌, subst}
+use Rattle.std.proofs.Common.{◌<◌, sym, ap, ◌∙◌, subst}
 use Rattle.std.specs.Prelude.{slice_get, length}
 use Rattle.dc_base.specs.declared.actions.Action.TheVariants as action
 use Rattle.dc_base.specs.declared.entries.Reason.TheVariants as reason
@@ -6,7 +6,6 @@ use Rattle.dc_base.specs.Outcomes.{has, if_here}
 use Rattle.dc_base.specs.Turns.{look_block, outcome}
 use Rattle.dc_base.specs.Wakes.{after_wake, wake_in, wake_turn}
 use Rattle.dc_objects.specs.States.{state_of}
-use Rattle.dc_machine.specs.Waits.{channel_wait}
 use Rattle.dc_machine.proofs.Refusals.{refuses, answers_as, at_index}
 use Rattle.dc_machine.proofs.Sounds.{here, shape, waits_there, held_as, waits_so}
 use Rattle.dc_machine.proofs.Stops.{stops, core_answers, budget_left}
