@@ -1,5 +1,5 @@
 -- The first due of the timers of a share, as it is searched.
-use Rattle.std.proofs.Common.{◌≡◌, ℕ, zero, suc, ◌+◌, ◌<◌, ◌≤◌, ◌^◌, List, [], ◌∷◌, ◌++◌, Bool, true, false, Option, Some, None, refl, sym, ap, ◌∙◌, subst, cond, length, take, drop, get_or, arith, map}
+use Rattle.std.proofs.Common.{◌≡◌, ℕ, suc, ◌+◌, ◌<◌, ◌≤◌, ◌^◌, List, [], ◌∷◌, ◌++◌, Bool, true, false, Option, Some, None, refl, ap, ◌∙◌, subst, cond, length, take, arith, map}
 use Rattle.std.specs.Prelude.{slice_get, nat_lt, ◌||◌, ◌&&◌, ◌==◌, ℤ, pos, negsuc, ◌-ℤ◌, ◌+ℤ◌, ◌≤ℤ◌, ◌<ℤ◌, IfSome}
 use Rattle.std.specs.List.{flat_map}
 use Rattle.std.specs.Option.{option_map}
@@ -11,12 +11,11 @@ use Rattle.std.proofs.lemmas.List.Concat.{flat_map-cons}
 use Rattle.std.proofs.lemmas.Option.{none-some, same_Some, slice_get_within, get_or_from_slice_get}
 use Rattle.dc_base.specs.declared.interrupts.Timer.{Timer}
 use Rattle.dc_base.specs.Outcomes.{share_blocks}
-use Rattle.dc_base.specs.States.{Block, Member, Whereabouts, rest, on, time_on}
+use Rattle.dc_base.specs.States.{Block, Member, Whereabouts, rest, on}
 use Rattle.dc_base.specs.Steps.{due_clocks, due_clock, next_due}
 use Rattle.dc_base.specs.Timers.{soonest, sooner, is_sooner}
 use Rattle.dc_base.specs.Turns.{Looked}
-use Rattle.dc_base.specs.Words.{least, lesser, above_zero, Each}
-use Rattle.dc_kernel.specs.Running.{IsTimely}
+use Rattle.dc_base.specs.Words.{least, lesser, above_zero}
 use Rattle.dc_objects.specs.Blocks.{IsHeld, running_of}
 use Rattle.dc_machine.specs.InHand.{IsInHand}
 use Rattle.dc_machine.specs.Nexts.{earlier}

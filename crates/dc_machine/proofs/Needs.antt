@@ -1,7 +1,6 @@
 -- The object that a call needs is there, and is of the same kind afterwards.
-use Rattle.std.proofs.Common.{◌≡◌, ℕ, ◌<◌, List, Bool, true, false, Option, Some, None, refl, sym, ap, ◌∙◌, subst, arith, length}
+use Rattle.std.proofs.Common.{◌≡◌, ℕ, ◌<◌, List, Bool, true, false, Option, Some, None, refl, sym, ap, subst, arith, length}
 use Rattle.std.specs.Prelude.{slice_get, nat_lt, if◌then◌else◌, ◌++◌, ◌∷◌, [], ⊤}
-use Rattle.std.proofs.lemmas.Option.{none-some}
 use Rattle.std.proofs.lemmas.Option.{slice_get_within}
 use Rattle.dc_base.specs.declared.calls.Need.{Need}
 use Rattle.dc_base.specs.declared.calls.Op.{Op}
@@ -21,14 +20,14 @@ use Rattle.dc_base.specs.Policies.{pick}
 use Rattle.dc_base.specs.Serving.{need, Outside, nothing_outside, console_outside, channel_outside, line_outside, Served, faulted, held_up, served, serve, serve_send, serve_receive, serve_claim}
 use Rattle.dc_base.specs.Slices.{Halfway, stopped, stands, halfway, need_of, slice_end, without_ready, with_due, after_served}
 use Rattle.dc_base.specs.Sound.{IsSound}
-use Rattle.dc_base.specs.States.{State, Core, Block, Whereabouts, rest, on, time_on}
+use Rattle.dc_base.specs.States.{State, Block, Whereabouts, rest, on}
 use Rattle.dc_base.specs.Words.{bind}
-use Rattle.dc_kernel.specs.Forwards.{halfway_in, need_in, picked, fired}
+use Rattle.dc_kernel.specs.Forwards.{halfway_in, need_in}
 use Rattle.dc_kernel.specs.Running.{Running, time_in}
 use Rattle.dc_objects.specs.Blocks.{running_of}
 use Rattle.dc_sound.proofs.BlockNaming.{keeps_names, held_names}
 use Rattle.dc_sound.proofs.Calls.{CallFits}
-use Rattle.dc_sound.proofs.ControlSteps.{Steps, kept_by, joined, last, readied}
+use Rattle.dc_sound.proofs.ControlSteps.{Steps, kept_by, last, readied}
 use Rattle.dc_sound.proofs.Ready.{fire_owes, ready_owes, owes_ready, picked_in}
 use Rattle.dc_sound.proofs.Walks.{fire_steps, half_steps, is_ready_at, HalfFits}
 use Rattle.dc_machine.specs.Lifts.{HasNeeded, SameKind}

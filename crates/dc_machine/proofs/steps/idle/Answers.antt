@@ -5,7 +5,6 @@ use Rattle.std.proofs.lemmas.Option.{get_or_from_slice_get}
 use Rattle.dc_base.specs.States.{Core}
 use Rattle.dc_base.specs.Steps.{idle_outcome, with_clock}
 use Rattle.dc_objects.specs.States.{state_of}
-use Rattle.dc_machine.proofs.Slicing.{slice_answers}
 use Rattle.dc_machine.proofs.steps.idle.Goals as goal
 
 pub returns-clause-step : goal.returns-clause-step

@@ -1,7 +1,6 @@
 -- A slice with the object that its call needs lifted out.
-use Rattle.std.proofs.Common.{◌≡◌, ◌+◌, ◌<◌, ℕ, List, Some, true, refl, sym, ap, ◌∙◌, subst, slice_get, length, arith}
+use Rattle.std.proofs.Common.{◌≡◌, ◌+◌, ◌<◌, ℕ, List, Some, true, refl, sym, ap, ◌∙◌, subst, slice_get, arith}
 use Rattle.std.specs.Prelude.{slice_set}
-use Rattle.dc_base.specs.Changes.{apply}
 use Rattle.dc_base.specs.Outcomes.{has}
 use Rattle.dc_base.specs.States.{State, Core, Block, with_control}
 use Rattle.dc_base.specs.Steps.{core_after_slice}

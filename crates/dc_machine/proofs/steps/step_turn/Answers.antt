@@ -1,6 +1,5 @@
 -- A core's step.
-use Rattle.std.proofs.Common.{◌≡◌, Some, None, refl, sym, ap, ◌∙◌, subst, slice_get, length}
-use Rattle.std.specs.Prelude.{◌<◌}
+use Rattle.std.proofs.Common.{◌≡◌, Some, refl, sym, ap, ◌∙◌, subst, slice_get, length}
 use Rattle.std.proofs.lemmas.Option.{slice_get_read, same_Some}
 use Rattle.dc_base.specs.States.{State, Core, Block}
 use Rattle.dc_base.specs.Steps.{idle_outcome}
@@ -8,7 +7,7 @@ use Rattle.dc_kernel.specs.Forwards.{IsForward}
 use Rattle.dc_objects.specs.Blocks.{running_of}
 use Rattle.dc_objects.specs.States.{state_of}
 use Rattle.dc_machine.specs.Answers.{Answers}
-use Rattle.dc_machine.specs.Nexts.{stopped, IsNext}
+use Rattle.dc_machine.specs.Nexts.{IsNext}
 use Rattle.dc_machine.proofs.CoreTurns.{seen, stops, unspent, idles, nothing, first_there, first_listed, slices}
 use Rattle.dc_machine.proofs.InHands.{in_hand, quantum_is, budget_left}
 use Rattle.dc_machine.proofs.steps.step_turn.Goals as goal
@@ -20,8 +19,8 @@ returns-in-Some-clause-step g c =
     let at : slice_get s.cores c.args.c.0 ≡ Some k = slice_get_read s.cores (length s.cores) c.args.c.0 k refl c.requires.core c.index-core.ensures in
     stops s c.args.c k at c.in-Some.stop (sym c.stopped.ensures ∙ c.in-Some.is)
 
-pub next_of-requires-clause-blocks : goal.next_of-requires-clause-blocks
-next_of-requires-clause-blocks g c κs within =
+pub next_of-requires-clause-hand : goal.next_of-requires-clause-hand
+next_of-requires-clause-hand g c κs within =
     let s : State = state_of c.args.objects.now in
     let k : Core = c.index-core.result.now in
     let at : slice_get s.cores c.args.c.0 ≡ Some k = slice_get_read s.cores (length s.cores) c.args.c.0 k refl c.requires.core c.index-core.ensures in
