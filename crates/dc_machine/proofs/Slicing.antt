@@ -123,8 +123,8 @@ module _ (s new : State) (c : CoreNo) (k : Core) (b : BlockNo) (x : Block) (n : 
   slice_answers r is need t e =
       let free : sl.disp ≡ None → n ≡ needs.Nothing = λ h. need ∙ done_free (look_in s b.0) refl k.settings.quantum c.0 b.0 k.clock r (told control sl out) t (ap number_of h) in
       let turn : outcome s (slice_turn c.0 k b.0 (Some x)) ≡ outcome_by c.0 k b.0 x n (told control sl out) (number_of sl.disp) =
-          ap (λ (y : Block). outcome s (slice_turn c.0 k b.0 (Some y))) is ∙ (slice_done s c.0 k b.0 r ∙ (ap (λ o. done_outcome c.0 k b.0 (on_core c.0 r) (need_in (halfway_in k.settings.quantum k.clock r)) o) (sym t)
-          ∙ (ap (λ (m : Need). outcome_by c.0 k b.0 (on_core c.0 r) m (told control sl out) (number_of sl.disp)) (sym need) ∙ ap (λ (y : Block). outcome_by c.0 k b.0 y n (told control sl out) (number_of sl.disp)) (sym is)))) in
+      ap (λ (y : Block). outcome s (slice_turn c.0 k b.0 (Some y))) is ∙ (slice_done s c.0 k b.0 r ∙ (ap (λ o. done_outcome c.0 k b.0 (on_core c.0 r) (need_in (halfway_in k.settings.quantum k.clock r)) o) (sym t)
+      ∙ (ap (λ (m : Need). outcome_by c.0 k b.0 (on_core c.0 r) m (told control sl out) (number_of sl.disp)) (sym need) ∙ ap (λ (y : Block). outcome_by c.0 k b.0 y n (told control sl out) (number_of sl.disp)) (sym is)))) in
       subst (Answers (entry_of c (slice_what b sl (k.clock + sl.advance))) s new) (sym turn) (answer_by sl.disp free e)
 
 -- the whole state afterwards
@@ -237,6 +237,12 @@ module _ {D : Type 0} (o u : Objects D) (h : KeepsRest o u) where
 
   pub blocks_kept : u.blocks.items ≡ o.blocks.items
   blocks_kept = let e = h.blocks in cc
+
+  pub block_is : (b : ℕ) (x v : Block) → slice_get o.blocks.items b ≡ Some x → v ≡ get_or u.blocks.items b v → v ≡ x
+  block_is b x v at e = item_is o.blocks.items u.blocks.items b x v blocks_kept at e
+
+  pub block_within : (b : ℕ) (x : Block) → slice_get o.blocks.items b ≡ Some x → b < length u.blocks.items
+  block_within b x at = item_within o.blocks.items u.blocks.items b x blocks_kept at
 
   pub mailboxes_kept : u.mailboxes.items ≡ o.mailboxes.items
   mailboxes_kept = let e = h.mailboxes in cc

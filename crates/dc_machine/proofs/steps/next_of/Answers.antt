@@ -27,9 +27,11 @@ returns-in-Some-block g c =
     let f = first_is c.requires.hand.0 k seen c.requires.hand.1 c.first_runnable.result c.in-Some.b c.in-Some.is c.first_runnable.ensures in
     let x : Block = c.in-Some-block.block.now in
     let there : seen c.in-Some.b.0 ≡ Some x = seen_some c.block.result c.in-Some-block.block (seen c.in-Some.b.0) c.in-Some-block.is c.block.ensures in
-    let q : c.quantum.result ≡ k.settings.quantum = c.quantum.ensures ∙ ap (λ (t : Settings). t.quantum) c.settings.ensures in
-    (x, f.1 ∙ ap (λ (o : Option Block). Some (record { number = c.in-Some.b.0; found = o })) there,
-     subst (λ n. IsForward k.settings.quantum n (running_of x) c.forward-forward.result) c.clock.ensures (subst (λ q. IsForward q c.clock.result (running_of x) c.forward-forward.result) q c.forward-forward.ensures))
+    let q : c.quantum.result ≡ k.settings.quantum = c.quantum.ensures ∙ ap (λ (t : Settings). t.quantum) c.settings.ensures in (
+      x,
+      f.1 ∙ ap (λ (o : Option Block). Some (record { number = c.in-Some.b.0; found = o })) there,
+      subst (λ n. IsForward k.settings.quantum n (running_of x) c.forward-forward.result) c.clock.ensures (subst (λ q. IsForward q c.clock.result (running_of x) c.forward-forward.result) q c.forward-forward.ensures),
+    )
 
 pub returns-in-Some-next_due : goal.returns-in-Some-next_due
 returns-in-Some-next_due g c =

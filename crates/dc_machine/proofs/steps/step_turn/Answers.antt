@@ -46,9 +46,13 @@ slice-requires-clause-core g c κs within =
     let k : Core = c.index-core.result.now in
     let at : slice_get s.cores c.args.c.0 ≡ Some k = slice_get_read s.cores (length s.cores) c.args.c.0 k refl c.requires.core c.index-core.ensures in
     let next = subst (IsNext k (seen s c.args.c k at)) c.in-Slice.is c.next_of.ensures in
-    let there = first_there s c.args.c k at c.in-Slice.block next.0 next.1 in
-    (k, at, first_listed s c.args.c k at c.in-Slice.block next.0 next.1, budget_left s c.requires.sound c.args.c.0 k at (unspent s c.args.c k at (sym c.stopped.ensures ∙ c.in_default.is)),
-     λ x found. subst (λ (y : Block). IsForward k.settings.quantum k.clock (running_of y) c.in-Slice.forward) (same_Some next.0 x (sym there ∙ found)) next.2)
+    let there = first_there s c.args.c k at c.in-Slice.block next.0 next.1 in (
+      k,
+      at,
+      first_listed s c.args.c k at c.in-Slice.block next.0 next.1,
+      budget_left s c.requires.sound c.args.c.0 k at (unspent s c.args.c k at (sym c.stopped.ensures ∙ c.in_default.is)),
+      λ x found. subst (λ (y : Block). IsForward k.settings.quantum k.clock (running_of y) c.in-Slice.forward) (same_Some next.0 x (sym there ∙ found)) next.2,
+    )
 
 pub returns-in-Nothing-clause-step : goal.returns-in-Nothing-clause-step
 returns-in-Nothing-clause-step g c =
