@@ -146,27 +146,30 @@ pub record IsAfter (s t : State) (ks : List Core) (xs : List Block) (u : State) 
   pub script : t.script ≡ s.script
 
 module _ (s t : State) (cores : List Core) (blocks : List Block) where
+  whole_is : (u : State) → IsAfter s t cores blocks u → t ≡ whole cores blocks u.channels u.lines s.mailboxes u.consoles s.script
+  whole_is u a = same_whole t.cores cores t.blocks blocks t.channels u.channels t.lines u.lines t.mailboxes s.mailboxes t.consoles u.consoles t.script s.script a.cores a.blocks a.channels a.lines a.mailboxes a.consoles a.script
+
   abbrev Goes : Need → Outside → Type 0
   Goes n out = (b : ℕ) → IsAfter s t cores blocks (apply s (outside_change b n out)) → t ≡ apply (record s { cores = cores; blocks = blocks }) (outside_change b n out)
 
   pub after_is : (n : Need) (out : Outside) → Goes n out
   unfolding outside_change
-  after_is needs.Nothing nothing_outside b a = same_whole _ _ _ _ _ _ _ _ _ _ _ _ _ _ a.cores a.blocks a.channels a.lines a.mailboxes a.consoles a.script
-  after_is needs.Nothing (console_outside ws) b a = same_whole _ _ _ _ _ _ _ _ _ _ _ _ _ _ a.cores a.blocks a.channels a.lines a.mailboxes a.consoles a.script
-  after_is needs.Nothing (channel_outside r) b a = same_whole _ _ _ _ _ _ _ _ _ _ _ _ _ _ a.cores a.blocks a.channels a.lines a.mailboxes a.consoles a.script
-  after_is needs.Nothing (line_outside w) b a = same_whole _ _ _ _ _ _ _ _ _ _ _ _ _ _ a.cores a.blocks a.channels a.lines a.mailboxes a.consoles a.script
-  after_is needs.Console nothing_outside b a = same_whole _ _ _ _ _ _ _ _ _ _ _ _ _ _ a.cores a.blocks a.channels a.lines a.mailboxes a.consoles a.script
-  after_is needs.Console (console_outside ws) b a = same_whole _ _ _ _ _ _ _ _ _ _ _ _ _ _ a.cores a.blocks a.channels a.lines a.mailboxes a.consoles a.script
-  after_is needs.Console (channel_outside r) b a = same_whole _ _ _ _ _ _ _ _ _ _ _ _ _ _ a.cores a.blocks a.channels a.lines a.mailboxes a.consoles a.script
-  after_is needs.Console (line_outside w) b a = same_whole _ _ _ _ _ _ _ _ _ _ _ _ _ _ a.cores a.blocks a.channels a.lines a.mailboxes a.consoles a.script
-  after_is (needs.Channel x) nothing_outside b a = same_whole _ _ _ _ _ _ _ _ _ _ _ _ _ _ a.cores a.blocks a.channels a.lines a.mailboxes a.consoles a.script
-  after_is (needs.Channel x) (console_outside ws) b a = same_whole _ _ _ _ _ _ _ _ _ _ _ _ _ _ a.cores a.blocks a.channels a.lines a.mailboxes a.consoles a.script
-  after_is (needs.Channel x) (channel_outside r) b a = same_whole _ _ _ _ _ _ _ _ _ _ _ _ _ _ a.cores a.blocks a.channels a.lines a.mailboxes a.consoles a.script
-  after_is (needs.Channel x) (line_outside w) b a = same_whole _ _ _ _ _ _ _ _ _ _ _ _ _ _ a.cores a.blocks a.channels a.lines a.mailboxes a.consoles a.script
-  after_is (needs.Line l) nothing_outside b a = same_whole _ _ _ _ _ _ _ _ _ _ _ _ _ _ a.cores a.blocks a.channels a.lines a.mailboxes a.consoles a.script
-  after_is (needs.Line l) (console_outside ws) b a = same_whole _ _ _ _ _ _ _ _ _ _ _ _ _ _ a.cores a.blocks a.channels a.lines a.mailboxes a.consoles a.script
-  after_is (needs.Line l) (channel_outside r) b a = same_whole _ _ _ _ _ _ _ _ _ _ _ _ _ _ a.cores a.blocks a.channels a.lines a.mailboxes a.consoles a.script
-  after_is (needs.Line l) (line_outside w) b a = same_whole _ _ _ _ _ _ _ _ _ _ _ _ _ _ a.cores a.blocks a.channels a.lines a.mailboxes a.consoles a.script
+  after_is needs.Nothing nothing_outside b a = whole_is _ a
+  after_is needs.Nothing (console_outside ws) b a = whole_is _ a
+  after_is needs.Nothing (channel_outside r) b a = whole_is _ a
+  after_is needs.Nothing (line_outside w) b a = whole_is _ a
+  after_is needs.Console nothing_outside b a = whole_is _ a
+  after_is needs.Console (console_outside ws) b a = whole_is _ a
+  after_is needs.Console (channel_outside r) b a = whole_is _ a
+  after_is needs.Console (line_outside w) b a = whole_is _ a
+  after_is (needs.Channel x) nothing_outside b a = whole_is _ a
+  after_is (needs.Channel x) (console_outside ws) b a = whole_is _ a
+  after_is (needs.Channel x) (channel_outside r) b a = whole_is _ a
+  after_is (needs.Channel x) (line_outside w) b a = whole_is _ a
+  after_is (needs.Line l) nothing_outside b a = whole_is _ a
+  after_is (needs.Line l) (console_outside ws) b a = whole_is _ a
+  after_is (needs.Line l) (channel_outside r) b a = whole_is _ a
+  after_is (needs.Line l) (line_outside w) b a = whole_is _ a
 
 -- a channel of a sound state can count one message more
 module _ (s : State) (p : IsSound s) (b : ℕ) where
