@@ -35,7 +35,7 @@ listed_at (m ∷ ms) zero b e = ap (λ t. t || has ms b) (subst (λ n. (m.block 
 listed_at (m ∷ ms) (suc i) b e = ap (λ t. (m.block == b) || t) (listed_at ms i b e) ∙ or-true (m.block == b)
 
 -- a place below the length has a block
-pub place_has : (share : List Member) (i : ℕ) → i < length share → slice_get (share_blocks share) i ≡ None → ⊥
+place_has : (share : List Member) (i : ℕ) → i < length share → slice_get (share_blocks share) i ≡ None → ⊥
 place_has share i h e = none-some _ (sym e ∙ slice_get-get_or (share_blocks share) i 0 (let n = length-map share (λ (m : Member). m.block) in omega (arith, n, h)))
 
 module _ (seen : ℕ → Option Block) (clock : ℕ) where
@@ -66,11 +66,19 @@ hand_at c k seen hand i b at x e =
 pub hand_has : (c : ℕ) (k : Core) (seen : ℕ → Option Block) → AreInHand c k seen → (b : ℕ) → has k.share b ≡ true → seen b ≡ None → ⊥
 hand_has c k seen hand b listed e = let h = hand b listed in none-some h.0 (sym e ∙ h.1)
 
-pub number_at : (o : Option BlockNo) (b : BlockNo) (r : Option ℕ) → o ≡ Some b → option_map (λ (n : BlockNo). n.0) o ≡ r → r ≡ Some b.0
+-- the block that a share tells at a place
+number_at : (o : Option BlockNo) (b : BlockNo) (r : Option ℕ) → o ≡ Some b → option_map (λ (n : BlockNo). n.0) o ≡ r → r ≡ Some b.0
 number_at o b r e h = sym h ∙ ap (option_map (λ (n : BlockNo). n.0)) e
+
+pub place_is : (ms share : List Member) (i : ℕ) (o : Option BlockNo) (b : BlockNo) → ms ≡ share → o ≡ Some b → option_map (λ (n : BlockNo). n.0) o ≡ slice_get (share_blocks ms) i → slice_get (share_blocks share) i ≡ Some b.0
+place_is ms share i o b same e h = ap (λ (ms : List Member). slice_get (share_blocks ms) i) (sym same) ∙ number_at o b (slice_get (share_blocks ms) i) e h
 
 pub no_number_at : (o : Option BlockNo) (r : Option ℕ) → o ≡ None → option_map (λ (n : BlockNo). n.0) o ≡ r → r ≡ None
 no_number_at o r e h = sym h ∙ ap (option_map (λ (n : BlockNo). n.0)) e
+
+-- none stands there only past the end
+pub place_past : (ms share : List Member) (i : ℕ) (o : Option BlockNo) → ms ≡ share → i < length share → o ≡ None → option_map (λ (n : BlockNo). n.0) o ≡ slice_get (share_blocks ms) i → ⊥
+place_past ms share i o same within e h = place_has share i within (ap (λ (ms : List Member). slice_get (share_blocks ms) i) (sym same) ∙ no_number_at o (slice_get (share_blocks ms) i) e h)
 
 pub seen_some : {T : Type 0} (o : Option (Bor T)) (x : Bor T) (r : Option T) → o ≡ Some x → option_copied o ≡ r → r ≡ Some x.now
 seen_some o x r e h = sym h ∙ ap option_copied e

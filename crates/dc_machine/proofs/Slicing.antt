@@ -146,27 +146,30 @@ pub record IsAfter (s t : State) (ks : List Core) (xs : List Block) (u : State) 
   pub script : t.script ≡ s.script
 
 module _ (s t : State) (cores : List Core) (blocks : List Block) where
+  whole_is : (u : State) → IsAfter s t cores blocks u → t ≡ whole cores blocks u.channels u.lines s.mailboxes u.consoles s.script
+  whole_is u a = same_whole t.cores cores t.blocks blocks t.channels u.channels t.lines u.lines t.mailboxes s.mailboxes t.consoles u.consoles t.script s.script a.cores a.blocks a.channels a.lines a.mailboxes a.consoles a.script
+
   abbrev Goes : Need → Outside → Type 0
   Goes n out = (b : ℕ) → IsAfter s t cores blocks (apply s (outside_change b n out)) → t ≡ apply (record s { cores = cores; blocks = blocks }) (outside_change b n out)
 
   pub after_is : (n : Need) (out : Outside) → Goes n out
   unfolding outside_change
-  after_is needs.Nothing nothing_outside b a = same_whole _ _ _ _ _ _ _ _ _ _ _ _ _ _ a.cores a.blocks a.channels a.lines a.mailboxes a.consoles a.script
-  after_is needs.Nothing (console_outside ws) b a = same_whole _ _ _ _ _ _ _ _ _ _ _ _ _ _ a.cores a.blocks a.channels a.lines a.mailboxes a.consoles a.script
-  after_is needs.Nothing (channel_outside r) b a = same_whole _ _ _ _ _ _ _ _ _ _ _ _ _ _ a.cores a.blocks a.channels a.lines a.mailboxes a.consoles a.script
-  after_is needs.Nothing (line_outside w) b a = same_whole _ _ _ _ _ _ _ _ _ _ _ _ _ _ a.cores a.blocks a.channels a.lines a.mailboxes a.consoles a.script
-  after_is needs.Console nothing_outside b a = same_whole _ _ _ _ _ _ _ _ _ _ _ _ _ _ a.cores a.blocks a.channels a.lines a.mailboxes a.consoles a.script
-  after_is needs.Console (console_outside ws) b a = same_whole _ _ _ _ _ _ _ _ _ _ _ _ _ _ a.cores a.blocks a.channels a.lines a.mailboxes a.consoles a.script
-  after_is needs.Console (channel_outside r) b a = same_whole _ _ _ _ _ _ _ _ _ _ _ _ _ _ a.cores a.blocks a.channels a.lines a.mailboxes a.consoles a.script
-  after_is needs.Console (line_outside w) b a = same_whole _ _ _ _ _ _ _ _ _ _ _ _ _ _ a.cores a.blocks a.channels a.lines a.mailboxes a.consoles a.script
-  after_is (needs.Channel x) nothing_outside b a = same_whole _ _ _ _ _ _ _ _ _ _ _ _ _ _ a.cores a.blocks a.channels a.lines a.mailboxes a.consoles a.script
-  after_is (needs.Channel x) (console_outside ws) b a = same_whole _ _ _ _ _ _ _ _ _ _ _ _ _ _ a.cores a.blocks a.channels a.lines a.mailboxes a.consoles a.script
-  after_is (needs.Channel x) (channel_outside r) b a = same_whole _ _ _ _ _ _ _ _ _ _ _ _ _ _ a.cores a.blocks a.channels a.lines a.mailboxes a.consoles a.script
-  after_is (needs.Channel x) (line_outside w) b a = same_whole _ _ _ _ _ _ _ _ _ _ _ _ _ _ a.cores a.blocks a.channels a.lines a.mailboxes a.consoles a.script
-  after_is (needs.Line l) nothing_outside b a = same_whole _ _ _ _ _ _ _ _ _ _ _ _ _ _ a.cores a.blocks a.channels a.lines a.mailboxes a.consoles a.script
-  after_is (needs.Line l) (console_outside ws) b a = same_whole _ _ _ _ _ _ _ _ _ _ _ _ _ _ a.cores a.blocks a.channels a.lines a.mailboxes a.consoles a.script
-  after_is (needs.Line l) (channel_outside r) b a = same_whole _ _ _ _ _ _ _ _ _ _ _ _ _ _ a.cores a.blocks a.channels a.lines a.mailboxes a.consoles a.script
-  after_is (needs.Line l) (line_outside w) b a = same_whole _ _ _ _ _ _ _ _ _ _ _ _ _ _ a.cores a.blocks a.channels a.lines a.mailboxes a.consoles a.script
+  after_is needs.Nothing nothing_outside b a = whole_is _ a
+  after_is needs.Nothing (console_outside ws) b a = whole_is _ a
+  after_is needs.Nothing (channel_outside r) b a = whole_is _ a
+  after_is needs.Nothing (line_outside w) b a = whole_is _ a
+  after_is needs.Console nothing_outside b a = whole_is _ a
+  after_is needs.Console (console_outside ws) b a = whole_is _ a
+  after_is needs.Console (channel_outside r) b a = whole_is _ a
+  after_is needs.Console (line_outside w) b a = whole_is _ a
+  after_is (needs.Channel x) nothing_outside b a = whole_is _ a
+  after_is (needs.Channel x) (console_outside ws) b a = whole_is _ a
+  after_is (needs.Channel x) (channel_outside r) b a = whole_is _ a
+  after_is (needs.Channel x) (line_outside w) b a = whole_is _ a
+  after_is (needs.Line l) nothing_outside b a = whole_is _ a
+  after_is (needs.Line l) (console_outside ws) b a = whole_is _ a
+  after_is (needs.Line l) (channel_outside r) b a = whole_is _ a
+  after_is (needs.Line l) (line_outside w) b a = whole_is _ a
 
 -- a channel of a sound state can count one message more
 module _ (s : State) (p : IsSound s) (b : ℕ) where
@@ -237,6 +240,12 @@ module _ {D : Type 0} (o u : Objects D) (h : KeepsRest o u) where
 
   pub blocks_kept : u.blocks.items ≡ o.blocks.items
   blocks_kept = let e = h.blocks in cc
+
+  pub block_is : (b : ℕ) (x v : Block) → slice_get o.blocks.items b ≡ Some x → v ≡ get_or u.blocks.items b v → v ≡ x
+  block_is b x v at e = item_is o.blocks.items u.blocks.items b x v blocks_kept at e
+
+  pub block_within : (b : ℕ) (x : Block) → slice_get o.blocks.items b ≡ Some x → b < length u.blocks.items
+  block_within b x at = item_within o.blocks.items u.blocks.items b x blocks_kept at
 
   pub mailboxes_kept : u.mailboxes.items ≡ o.mailboxes.items
   mailboxes_kept = let e = h.mailboxes in cc

@@ -51,7 +51,7 @@ pub(crate) fn stopped(core: &CoreState) -> Option<Stepped>
 
 /// The first block of the share that can run.
 fn first_runnable<D: Driver, B: Blocks<D>>(core: &CoreState, blocks: &B) -> Option<BlockNo>
-    requires blocks { (c : ℕ) × AreInHand c core.now (B.seen blocks.now) }
+    requires hand { (c : ℕ) × AreInHand c core.now (B.seen blocks.now) }
     ensures { option_map (λ (b : Number). b.0) result ≡ option_map (λ (l : Looked). l.number) (first_runnable core.now (looked_in (B.seen blocks.now) core.now.share)) }
 {
     let share = core.share();
@@ -95,7 +95,7 @@ fn clock_from(due: i128) -> u64
 
 /// The core's clock at which the first timer of the share is due.
 fn next_due<D: Driver, B: Blocks<D>>(core: &CoreState, blocks: &B) -> Option<u64>
-    requires blocks { (c : ℕ) × AreInHand c core.now (B.seen blocks.now) }
+    requires hand { (c : ℕ) × AreInHand c core.now (B.seen blocks.now) }
     ensures { result ≡ next_due (looked_in (B.seen blocks.now) core.now.share) }
 {
     let share = core.share();
@@ -112,7 +112,7 @@ fn next_due<D: Driver, B: Blocks<D>>(core: &CoreState, blocks: &B) -> Option<u64
 
 /// What a core does next that is on and has not used its budget.
 pub(crate) fn next_of<D: Driver, B: Blocks<D>>(core: &CoreState, blocks: &B) -> Next
-    requires blocks { (c : ℕ) × AreInHand c core.now (B.seen blocks.now) }
+    requires hand { (c : ℕ) × AreInHand c core.now (B.seen blocks.now) }
     requires quantum { IsQuantum core.now.settings.quantum }
     ensures { IsNext core.now (looked_in (B.seen blocks.now) core.now.share) result }
 {

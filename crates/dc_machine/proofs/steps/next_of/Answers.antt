@@ -15,16 +15,16 @@ pub forward-forward-requires-clause-timed : goal.forward-forward-requires-clause
 forward-forward-requires-clause-timed g c κs within =
     let k : Core = c.args.core.now in
     let seen : ℕ → Option Block = g.B.Blocks.seen c.args.blocks.now in
-    let f = first_is c.requires.blocks.0 k seen c.requires.blocks.1 c.first_runnable.result c.in-Some.b c.in-Some.is c.first_runnable.ensures in
+    let f = first_is c.requires.hand.0 k seen c.requires.hand.1 c.first_runnable.result c.in-Some.b c.in-Some.is c.first_runnable.ensures in
     let there : seen c.in-Some.b.0 ≡ Some c.in-Some-block.block.now = seen_some c.block.result c.in-Some-block.block (seen c.in-Some.b.0) c.in-Some-block.is c.block.ensures in
-    let h = hand_of c.requires.blocks.0 k seen c.requires.blocks.1 c.in-Some.b.0 f.0 c.in-Some-block.block.now there in
+    let h = hand_of c.requires.hand.0 k seen c.requires.hand.1 c.in-Some.b.0 f.0 c.in-Some-block.block.now there in
     subst (λ n. IsTimed n c.in-Some-block.block.now) (sym c.clock.ensures) h.timed
 
 pub returns-in-Some-block : goal.returns-in-Some-block
 returns-in-Some-block g c =
     let k : Core = c.args.core.now in
     let seen : ℕ → Option Block = g.B.Blocks.seen c.args.blocks.now in
-    let f = first_is c.requires.blocks.0 k seen c.requires.blocks.1 c.first_runnable.result c.in-Some.b c.in-Some.is c.first_runnable.ensures in
+    let f = first_is c.requires.hand.0 k seen c.requires.hand.1 c.first_runnable.result c.in-Some.b c.in-Some.is c.first_runnable.ensures in
     let x : Block = c.in-Some-block.block.now in
     let there : seen c.in-Some.b.0 ≡ Some x = seen_some c.block.result c.in-Some-block.block (seen c.in-Some.b.0) c.in-Some-block.is c.block.ensures in
     let q : c.quantum.result ≡ k.settings.quantum = c.quantum.ensures ∙ ap (λ (t : Settings). t.quantum) c.settings.ensures in (
@@ -39,8 +39,8 @@ returns-in-Some-next_due g c =
     let seen : ℕ → Option Block = g.B.Blocks.seen c.args.blocks.now in
     elim c.match-first_runnable.branch [
       | in-Some+in_default-block w ↦
-          let f = first_is c.requires.blocks.0 k seen c.requires.blocks.1 c.first_runnable.result w.in-Some.b w.in-Some.is c.first_runnable.ensures in
-          absurd (hand_has c.requires.blocks.0 k seen c.requires.blocks.1 w.in-Some.b.0 f.0 (seen_none w.block.result (seen w.in-Some.b.0) w.in_default-block.is w.block.ensures))
+          let f = first_is c.requires.hand.0 k seen c.requires.hand.1 c.first_runnable.result w.in-Some.b w.in-Some.is c.first_runnable.ensures in
+          absurd (hand_has c.requires.hand.0 k seen c.requires.hand.1 w.in-Some.b.0 f.0 (seen_none w.block.result (seen w.in-Some.b.0) w.in_default-block.is w.block.ensures))
       | in_default w ↦ (no_number_found (first_runnable k (looked_in seen k.share)) (sym (no_number_at c.first_runnable.result (option_map (λ (l : Looked). l.number) (first_runnable k (looked_in seen k.share))) w.in_default.is c.first_runnable.ensures)), sym c.next_due.ensures ∙ c.in-Some-next_due.is)
     ]
 
@@ -50,7 +50,7 @@ returns-in-None g c =
     let seen : ℕ → Option Block = g.B.Blocks.seen c.args.blocks.now in
     elim c.match-first_runnable.branch [
       | in-Some+in_default-block w ↦
-          let f = first_is c.requires.blocks.0 k seen c.requires.blocks.1 c.first_runnable.result w.in-Some.b w.in-Some.is c.first_runnable.ensures in
-          absurd (hand_has c.requires.blocks.0 k seen c.requires.blocks.1 w.in-Some.b.0 f.0 (seen_none w.block.result (seen w.in-Some.b.0) w.in_default-block.is w.block.ensures))
+          let f = first_is c.requires.hand.0 k seen c.requires.hand.1 c.first_runnable.result w.in-Some.b w.in-Some.is c.first_runnable.ensures in
+          absurd (hand_has c.requires.hand.0 k seen c.requires.hand.1 w.in-Some.b.0 f.0 (seen_none w.block.result (seen w.in-Some.b.0) w.in_default-block.is w.block.ensures))
       | in_default w ↦ (no_number_found (first_runnable k (looked_in seen k.share)) (sym (no_number_at c.first_runnable.result (option_map (λ (l : Looked). l.number) (first_runnable k (looked_in seen k.share))) w.in_default.is c.first_runnable.ensures)), sym c.next_due.ensures ∙ c.in-None.is)
     ]

@@ -13,7 +13,7 @@ use Rattle.dc_machine.specs.Lifts.{HasNeeded}
 use Rattle.dc_machine.proofs.InHands.{in_hand, quantum_is, clock_small}
 use Rattle.dc_machine.proofs.Needs.{has_needed}
 use Rattle.dc_machine.proofs.Putting.{lifted_same}
-use Rattle.dc_machine.proofs.Slicing.{item_is, item_within, looked_done, kind_kept, did_same, forward_same, sliced, has_room, cores_kept, blocks_kept, mailboxes_kept, of_core}
+use Rattle.dc_machine.proofs.Slicing.{item_is, item_within, looked_done, kind_kept, did_same, forward_same, sliced, has_room, cores_kept, block_is, block_within, blocks_kept, mailboxes_kept, of_core}
 use Rattle.dc_machine.proofs.steps.slice.Goals as goal
 
 pub take_outside-outside-requires-after_bounds : goal.take_outside-outside-requires-after_bounds
@@ -29,7 +29,7 @@ index_mut-block-requires g c =
     let s : State = state_of c.args.objects.now in
     let core = c.requires.core in
     let x = in_hand s c.requires.sound c.args.c.0 core.0 core.1 c.args.b.0 core.2 in
-    let w = item_within s.blocks c.take_outside-outside.new.objects.blocks.items c.args.b.0 x.0 (blocks_kept c.args.objects.now c.take_outside-outside.new.objects c.take_outside-outside.ensures.rest) x.1 in
+    let w = block_within c.args.objects.now c.take_outside-outside.new.objects c.take_outside-outside.ensures.rest c.args.b.0 x.0 x.1 in
     omega (arith, w)
 
 pub slice-outside-requires-clause-timed : goal.slice-outside-requires-clause-timed
@@ -37,7 +37,7 @@ slice-outside-requires-clause-timed g c κs within =
     let s : State = state_of c.args.objects.now in
     let core = c.requires.core in
     let x = in_hand s c.requires.sound c.args.c.0 core.0 core.1 c.args.b.0 core.2 in
-    let is : c.index_mut-block.result.now ≡ x.0 = item_is s.blocks c.take_outside-outside.new.objects.blocks.items c.args.b.0 x.0 c.index_mut-block.result.now (blocks_kept c.args.objects.now c.take_outside-outside.new.objects c.take_outside-outside.ensures.rest) x.1 c.index_mut-block.ensures.value in
+    let is : c.index_mut-block.result.now ≡ x.0 = block_is c.args.objects.now c.take_outside-outside.new.objects c.take_outside-outside.ensures.rest c.args.b.0 x.0 c.index_mut-block.result.now x.1 c.index_mut-block.ensures.value in
     let clock : c.clock-clock.result ≡ core.0.clock = c.clock-clock.ensures ∙ ap (λ (k : Core). k.clock) (item_is s.cores s.cores c.args.c.0 core.0 c.index.result.now refl core.1 c.index.ensures) in
     subst (λ (y : Block). IsTimed c.clock-clock.result y) (sym is) (subst (λ n. IsTimed n x.0) (sym clock) x.2.timed)
 
@@ -46,7 +46,7 @@ slice-outside-requires-clause-bounds g c κs within =
     let s : State = state_of c.args.objects.now in
     let core = c.requires.core in
     let x = in_hand s c.requires.sound c.args.c.0 core.0 core.1 c.args.b.0 core.2 in
-    let is : c.index_mut-block.result.now ≡ x.0 = item_is s.blocks c.take_outside-outside.new.objects.blocks.items c.args.b.0 x.0 c.index_mut-block.result.now (blocks_kept c.args.objects.now c.take_outside-outside.new.objects c.take_outside-outside.ensures.rest) x.1 c.index_mut-block.ensures.value in
+    let is : c.index_mut-block.result.now ≡ x.0 = block_is c.args.objects.now c.take_outside-outside.new.objects c.take_outside-outside.ensures.rest c.args.b.0 x.0 c.index_mut-block.result.now x.1 c.index_mut-block.ensures.value in
     subst CanSlice (sym is) x.2.bounds
 
 pub slice-outside-requires-clause-forward : goal.slice-outside-requires-clause-forward
@@ -54,7 +54,7 @@ slice-outside-requires-clause-forward g c κs within =
     let s : State = state_of c.args.objects.now in
     let core = c.requires.core in
     let x = in_hand s c.requires.sound c.args.c.0 core.0 core.1 c.args.b.0 core.2 in
-    let is : c.index_mut-block.result.now ≡ x.0 = item_is s.blocks c.take_outside-outside.new.objects.blocks.items c.args.b.0 x.0 c.index_mut-block.result.now (blocks_kept c.args.objects.now c.take_outside-outside.new.objects c.take_outside-outside.ensures.rest) x.1 c.index_mut-block.ensures.value in
+    let is : c.index_mut-block.result.now ≡ x.0 = block_is c.args.objects.now c.take_outside-outside.new.objects c.take_outside-outside.ensures.rest c.args.b.0 x.0 c.index_mut-block.result.now x.1 c.index_mut-block.ensures.value in
     let clock : c.clock-clock.result ≡ core.0.clock = c.clock-clock.ensures ∙ ap (λ (k : Core). k.clock) (item_is s.cores s.cores c.args.c.0 core.0 c.index.result.now refl core.1 c.index.ensures) in
     (core.0.settings.quantum, quantum_is s c.requires.sound c.args.c.0 core.0 core.1, forward_same core.0.settings.quantum x.0 c.index_mut-block.result.now c.clock-clock.result core.0.clock c.args.forward.now clock is (core.4 x.0 x.1))
 
@@ -68,7 +68,7 @@ put_outside-requires-clause-lifted g c κs within =
     let core = c.requires.core in
     let k : Core = core.0 in
     let x = in_hand s c.requires.sound c.args.c.0 k core.1 c.args.b.0 core.2 in
-    let is : c.index_mut-block.result.now ≡ x.0 = item_is s.blocks c.take_outside-outside.new.objects.blocks.items c.args.b.0 x.0 c.index_mut-block.result.now (blocks_kept c.args.objects.now c.take_outside-outside.new.objects c.take_outside-outside.ensures.rest) x.1 c.index_mut-block.ensures.value in
+    let is : c.index_mut-block.result.now ≡ x.0 = block_is c.args.objects.now c.take_outside-outside.new.objects c.take_outside-outside.ensures.rest c.args.b.0 x.0 c.index_mut-block.result.now x.1 c.index_mut-block.ensures.value in
     let clock : c.clock-clock.result ≡ k.clock = c.clock-clock.ensures ∙ ap (λ (k : Core). k.clock) (item_is s.cores s.cores c.args.c.0 k c.index.result.now refl core.1 c.index.ensures) in
     let f : IsForward k.settings.quantum k.clock (running_of x.0) c.args.forward.now = core.4 x.0 x.1 in
     let did = c.slice-outside.ensures.done k.settings.quantum (quantum_is s c.requires.sound c.args.c.0 k core.1) (forward_same k.settings.quantum x.0 c.index_mut-block.result.now c.clock-clock.result k.clock c.args.forward.now clock is f) in
@@ -113,7 +113,7 @@ returns-clause-step g c k at =
     let forward = of_core (λ (k : Core). (x : Block) → slice_get s.blocks c.args.b.0 ≡ Some x → IsForward k.settings.quantum k.clock (running_of x) c.args.forward.now) s.cores c.args.c.0 first k c.requires.core.1 at c.requires.core.4 in
     let x = in_hand s c.requires.sound c.args.c.0 k at c.args.b.0 listed in
     let f = forward x.0 x.1 in
-    let is : c.index_mut-block.result.now ≡ x.0 = item_is s.blocks c.take_outside-outside.new.objects.blocks.items c.args.b.0 x.0 c.index_mut-block.result.now (blocks_kept c.args.objects.now c.take_outside-outside.new.objects c.take_outside-outside.ensures.rest) x.1 c.index_mut-block.ensures.value in
+    let is : c.index_mut-block.result.now ≡ x.0 = block_is c.args.objects.now c.take_outside-outside.new.objects c.take_outside-outside.ensures.rest c.args.b.0 x.0 c.index_mut-block.result.now x.1 c.index_mut-block.ensures.value in
     let clock : c.clock-clock.result ≡ k.clock = c.clock-clock.ensures ∙ ap (λ (k : Core). k.clock) (item_is s.cores s.cores c.args.c.0 k c.index.result.now refl at c.index.ensures) in
     let did = c.slice-outside.ensures.done k.settings.quantum (quantum_is s c.requires.sound c.args.c.0 k at) (forward_same k.settings.quantum x.0 c.index_mut-block.result.now c.clock-clock.result k.clock c.args.forward.now clock is f) in
     let out = outside_seen c.slice-outside.result.1 in

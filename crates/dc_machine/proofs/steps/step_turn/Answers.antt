@@ -19,8 +19,8 @@ returns-in-Some-clause-step g c =
     let at : slice_get s.cores c.args.c.0 ≡ Some k = slice_get_read s.cores (length s.cores) c.args.c.0 k refl c.requires.core c.index-core.ensures in
     stops s c.args.c k at c.in-Some.stop (sym c.stopped.ensures ∙ c.in-Some.is)
 
-pub next_of-requires-clause-blocks : goal.next_of-requires-clause-blocks
-next_of-requires-clause-blocks g c κs within =
+pub next_of-requires-clause-hand : goal.next_of-requires-clause-hand
+next_of-requires-clause-hand g c κs within =
     let s : State = state_of c.args.objects.now in
     let k : Core = c.index-core.result.now in
     let at : slice_get s.cores c.args.c.0 ≡ Some k = slice_get_read s.cores (length s.cores) c.args.c.0 k refl c.requires.core c.index-core.ensures in
