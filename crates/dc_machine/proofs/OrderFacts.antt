@@ -1,11 +1,10 @@
 -- What a sound machine says of the order in a core's mailbox.
-use Rattle.std.proofs.Common.{◌≡◌, ℕ, ◌+◌, ◌*◌, ◌^◌, ◌<◌, ◌≤◌, Bool, true, false, List, [], ◌∷◌, Option, Some, None, refl, sym, ap, ◌∙◌, subst, arith, length, get_or, max}
-use Rattle.std.specs.Prelude.{slice_get, IsSome, ℤ}
+use Rattle.std.proofs.Common.{◌≡◌, ℕ, ◌^◌, ◌<◌, ◌≤◌, Bool, true, false, List, Option, Some, None, refl, sym, ap, ◌∙◌, subst, arith, length, get_or}
+use Rattle.std.specs.Prelude.{slice_get}
 use Rattle.std.proofs.lemmas.Option.{slice_get_read, slice_get_within, get_or_from_slice_get}
 use Rattle.dc_base.specs.declared.commands.Order.TheVariants as orders
 use Rattle.dc_base.specs.declared.kernels.Clocks.{Clocks}
 use Rattle.dc_base.specs.declared.kernels.Clocks.TheVariants as clocks
-use Rattle.dc_base.specs.declared.kernels.Version.{Version}
 use Rattle.dc_base.specs.declared.numbers.BlockNo.{BlockNo}
 use Rattle.dc_base.specs.Orders.{adopted_time}
 use Rattle.dc_base.specs.Outcomes.{has}

@@ -1,5 +1,5 @@
 -- What a core and its blocks are after an order, as the definitions have it.
-use Rattle.std.proofs.Common.{◌≡◌, ℕ, zero, suc, ◌<◌, List, [], ◌∷◌, ◌++◌, Bool, Option, Some, None, refl, sym, ap, ◌∙◌, subst, length, get_or, map, arith}
+use Rattle.std.proofs.Common.{◌≡◌, ℕ, zero, suc, ◌<◌, List, [], ◌∷◌, ◌++◌, Bool, Some, None, refl, sym, ap, ◌∙◌, subst, length, get_or, arith}
 use Rattle.std.specs.Prelude.{slice_get, slice_set}
 use Rattle.dc_base.specs.declared.actions.Actor.TheVariants as actor
 use Rattle.dc_base.specs.declared.actions.Action.TheVariants as action
@@ -14,7 +14,7 @@ use Rattle.dc_base.specs.declared.numbers.CoreNo.{CoreNo}
 use Rattle.dc_base.specs.Orders.{carry_out, block_at_rest, block_under, adopted_time, adopt_outcome, release_outcome, order_turn}
 use Rattle.dc_base.specs.Cores.{core_turn, turn_of, core_step}
 use Rattle.dc_base.specs.Outcomes.{by_core, share_without}
-use Rattle.dc_base.specs.States.{State, Core, Block, Member, Mailbox, empty, ack, time_at, place_on}
+use Rattle.dc_base.specs.States.{State, Core, Block, Mailbox, empty, ack, time_at, place_on}
 use Rattle.dc_base.specs.States.{order as ordered}
 use Rattle.dc_base.specs.Sound.{IsSound}
 use Rattle.dc_base.specs.Turns.{outcome}

@@ -1,7 +1,7 @@
 -- The blocks of a share, changed one after another.
 use Rattle.std.proofs.Common.{◌≡◌, ℕ, zero, suc, ◌+◌, ◌<◌, ◌≤◌, List, [], ◌∷◌, Bool, true, false, Option, Some, None, refl, sym, ap, ◌∙◌, subst, cond, map, drop, length, get_or, arith}
 use Rattle.std.specs.Prelude.{slice_get, slice_set, ◌==◌, ◌||◌}
-use Rattle.std.specs.Option.{option_map, option_map_or}
+use Rattle.std.specs.Option.{option_map_or}
 use Rattle.std.proofs.lemmas.List.Sums.{sum_by-cons}
 use Rattle.std.proofs.lemmas.List.{length-map}
 use Rattle.std.proofs.lemmas.Option.{slice_get-get_or}
@@ -12,8 +12,8 @@ use Rattle.dc_base.specs.Placed.{count_in}
 use Rattle.dc_base.specs.States.{State, Block, Member}
 use Rattle.dc_base.specs.Turns.{looked_at}
 use Rattle.dc_objects.specs.Blocks.{IsTimed}
-use Rattle.dc_sound.proofs.Elements.{same_is, is_same, set_other}
-use Rattle.dc_machine.specs.Handing.{changed_one, changed_all}
+use Rattle.dc_sound.proofs.Elements.{same_is, set_other}
+use Rattle.dc_machine.specs.Handing.{changed_all}
 
 -- a share that lists each block once
 

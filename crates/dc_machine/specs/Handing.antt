@@ -1,5 +1,5 @@
 -- The blocks of a share, changed alike.
-use Rattle.std.specs.Prelude.{ℕ, List, [], ◌∷◌, Option, Some, None, slice_get, slice_set}
+use Rattle.std.specs.Prelude.{ℕ, List, [], ◌∷◌, slice_get, slice_set}
 use Rattle.std.specs.Option.{option_map_or}
 use Rattle.dc_base.specs.States.{Block, Member}
 

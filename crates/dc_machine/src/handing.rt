@@ -35,7 +35,14 @@ fn replace_block<D: Driver>(blocks: &mut Vec<BlockState<D>>, b: BlockNo, v: Vers
 }
 
 /// A block at rest goes on, on a core whose clock stands so, at this time, under a kernel of this version.
-pub(crate) fn adopt_block<D: Driver>(blocks: &mut Vec<BlockState<D>>, b: BlockNo, core: CoreNo, v: Version, clock: u64, time: u64)
+pub(crate) fn adopt_block<D: Driver>(
+    blocks: &mut Vec<BlockState<D>>,
+    b: BlockNo,
+    core: CoreNo,
+    v: Version,
+    clock: u64,
+    time: u64,
+)
     requires block { (x : Block) × (slice_get blocks.old.items b.0 ≡ Some x) × IsResting x × (kept_in x ≤ time) }
     requires served { D.served v ≡ true }
     requires clock { clock < 2 ^ 63 }

@@ -1,5 +1,5 @@
-use Rattle.std.proofs.Common.{◌≡◌, ◌<◌, ◌≤◌, ◌^◌, ◌++◌, ◌∷◌, [], sym, ap, ◌∙◌, subst, Some, arith}
-use Rattle.std.specs.Prelude.{slice_get, slice_set}
+use Rattle.std.proofs.Common.{◌<◌, ◌^◌, ◌++◌, ◌∷◌, [], sym, ap, ◌∙◌, subst, arith}
+use Rattle.std.specs.Prelude.{slice_set}
 use Rattle.std.proofs.lemmas.Option.{slice_get_within}
 use Rattle.dc_base.specs.States.{Core, Block, place_on}
 use Rattle.dc_objects.specs.Places.{IsResting}
@@ -34,7 +34,7 @@ adopt_block-requires-clause-block g c κs within =
     let k = c.index-core.result.now in
     let r = adoptable s c.requires.sound c.args.c.0 k (read_at s.cores c.args.c.0 k c.requires.core c.index-core.ensures) c.args.b c.args.parked c.requires.order in
     let e = time_is c.adopted_time-time.result c.time-kept.result c.clock-clock.result c.clocks.result k r.block c.index.result.now c.adopted_time-time.ensures (c.clocks.ensures ∙ ap (λ t. t.clocks) c.settings.ensures) c.time-kept.ensures c.clock-clock.ensures
-        (read_is s.blocks c.args.b.0 c.index.result.now r.block r.found c.index.ensures) in
+    (read_is s.blocks c.args.b.0 c.index.result.now r.block r.found c.index.ensures) in
     (r.block, r.found, r.resting, goes_forward s k c.args.b.0 c.args.parked r c.adopted_time-time.result e)
 
 pub adopt_block-requires-clause-clock : goal.adopt_block-requires-clause-clock
@@ -50,7 +50,7 @@ adopt_block-requires-clause-time g c κs within =
     let k = c.index-core.result.now in
     let r = adoptable s c.requires.sound c.args.c.0 k (read_at s.cores c.args.c.0 k c.requires.core c.index-core.ensures) c.args.b c.args.parked c.requires.order in
     let e = time_is c.adopted_time-time.result c.time-kept.result c.clock-clock.result c.clocks.result k r.block c.index.result.now c.adopted_time-time.ensures (c.clocks.ensures ∙ ap (λ t. t.clocks) c.settings.ensures) c.time-kept.ensures c.clock-clock.ensures
-        (read_is s.blocks c.args.b.0 c.index.result.now r.block r.found c.index.ensures) in
+    (read_is s.blocks c.args.b.0 c.index.result.now r.block r.found c.index.ensures) in
     time_below s k c.args.b.0 c.args.parked r c.adopted_time-time.result e
 
 pub admit-requires-clause-below : goal.admit-requires-clause-below
@@ -78,7 +78,7 @@ returns-clause-step g c k e =
     let same = read_is s.cores c.args.c.0 c.index-core.result.now k e c.index-core.ensures in
     let clock = c.clock-clock.ensures ∙ ap (λ (x : Core). x.clock) same in
     let time = time_is c.adopted_time-time.result c.time-kept.result c.clock-clock.result c.clocks.result k r.block c.index.result.now c.adopted_time-time.ensures
-        (c.clocks.ensures ∙ ap (λ t. t.clocks) c.settings.ensures ∙ ap (λ (x : Core). x.settings.clocks) same) c.time-kept.ensures clock (read_is s.blocks c.args.b.0 c.index.result.now r.block r.found c.index.ensures) in
+    (c.clocks.ensures ∙ ap (λ t. t.clocks) c.settings.ensures ∙ ap (λ (x : Core). x.settings.clocks) same) c.time-kept.ensures clock (read_is s.blocks c.args.b.0 c.index.result.now r.block r.found c.index.ensures) in
     adopt_step s (state_of c.acked.new.objects) c.args.c c.acked.result k c.admit.new.self c.args.b c.args.parked r.block c.in-Some.v c.adopted_time-time.result c.adopt_block.new.blocks.items
     (sym (c.in-Some.ensures ∙ ap (λ (x : Core). x.version) same)) r.found
     (record { entry = c.acked.ensures.entry; state = c.acked.ensures.mailbox })

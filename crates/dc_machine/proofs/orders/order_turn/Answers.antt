@@ -1,4 +1,4 @@
-use Rattle.std.proofs.Common.{◌≡◌, sym, ap, ◌∙◌, Some}
+use Rattle.std.proofs.Common.{sym, ap, ◌∙◌, Some}
 use Rattle.dc_base.specs.declared.commands.Order.TheVariants as order
 use Rattle.dc_objects.specs.States.{state_of}
 use Rattle.dc_machine.proofs.OrderSteps.{order_waits, order_step, no_order_step}

@@ -1,11 +1,10 @@
-use Rattle.std.proofs.Common.{◌≡◌, ◌<◌, sym, ap, ◌∙◌, subst, Some, arith}
-use Rattle.std.specs.Prelude.{slice_get, slice_set}
+use Rattle.std.proofs.Common.{sym, ap, ◌∙◌, subst, arith}
+use Rattle.std.specs.Prelude.{slice_set}
 use Rattle.std.proofs.lemmas.Option.{slice_get_within}
 use Rattle.dc_base.specs.Orders.{block_at_rest}
-use Rattle.dc_base.specs.Outcomes.{has, share_without}
+use Rattle.dc_base.specs.Outcomes.{share_without}
 use Rattle.dc_base.specs.States.{Core, Block, time_at}
 use Rattle.dc_objects.specs.Blocks.{IsTimed}
-use Rattle.dc_objects.specs.Places.{IsTimedOrResting}
 use Rattle.dc_objects.specs.States.{state_of}
 use Rattle.dc_machine.proofs.OrderFacts.{read_at, read_is, timed_there, releasable}
 use Rattle.dc_machine.proofs.OrderSteps.{release_step}

@@ -1,4 +1,4 @@
-use Rattle.std.proofs.Common.{◌≡◌, sym, ap, ◌∙◌, Some}
+use Rattle.std.proofs.Common.{ap, ◌∙◌, Some}
 use Rattle.dc_base.specs.States.{Core}
 use Rattle.dc_objects.specs.States.{state_of}
 use Rattle.dc_machine.proofs.OrderFacts.{read_is}

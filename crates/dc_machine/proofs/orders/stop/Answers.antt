@@ -1,4 +1,4 @@
-use Rattle.std.proofs.Common.{◌≡◌, sym, ap, ◌∙◌, Some, None, [], length}
+use Rattle.std.proofs.Common.{ap, ◌∙◌, None, [], length}
 use Rattle.dc_base.specs.Orders.{block_at_rest}
 use Rattle.dc_base.specs.States.{Core}
 use Rattle.dc_objects.specs.States.{state_of}
