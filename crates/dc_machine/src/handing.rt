@@ -75,8 +75,8 @@ pub(crate) fn replace_all<D: Driver>(blocks: &mut Vec<BlockState<D>>, core: &Cor
     ensures { blocks.new.items ≡ changed_all (block_under v) core.now.share blocks.old.items }
 {
     let share = core.share();
-    for i in 0..share.len() {
-        if let Some(b) = share.at(i) {
+    for place in 0..share.len() {
+        if let Some(b) = share.at(place) {
             replace_block(blocks, b, v, core.clock());
         }
     }
