@@ -19,17 +19,9 @@ loop-place-preserved g c =
     let k = c.args.core.now in
     elim c.match-at.branch [
       | in-Some w ↦ (
-<<<<<<< HEAD
-          let here : slice_get (share_blocks k.share) c.loop-i.i ≡ Some w.in-Some.b.0 = block_at c.share-share.result.now k.share c.loop-i.i (Some w.in-Some.b.0) c.share-share.ensures w.in-Some.ensures in
-          turn_made (block_under c.args.v) k.clock k.share c.loop-i.i w.in-Some.b.0 c.args.blocks.now.items c.loop-i.blocks.items here c.loop-i.invariant c.match-at.blocks.items (λ x e. ap (λ bs. bs.items) w.blocks-is ∙ w.replace_block.ensures x e))
-      | in_default w ↦ (
-          let below : c.loop-i.i < length k.share = subst (λ n. c.loop-i.i < n) (c.len-i-end.ensures.value ∙ ap length c.share-share.ensures) c.loop-i-test.true in
-          absurd (none_at k.share c.loop-i.i below (block_at c.share-share.result.now k.share c.loop-i.i None c.share-share.ensures w.in_default.ensures)))
-=======
           let here : slice_get (share_blocks k.share) c.loop-place.place ≡ Some w.in-Some.b.0 = block_at c.share-share.result.now k.share c.loop-place.place (Some w.in-Some.b.0) c.share-share.ensures w.in-Some.ensures in
           turn_made (block_under c.args.v) k.clock k.share c.loop-place.place w.in-Some.b.0 c.args.blocks.now.items c.loop-place.blocks.items here c.loop-place.invariant c.match-at.blocks.items (λ x e. ap (λ bs. bs.items) w.blocks-is ∙ w.replace_block.ensures x e))
       | in_default w ↦ (
           let below : c.loop-place.place < length k.share = subst (λ n. c.loop-place.place < n) (c.len-place-end.ensures.value ∙ ap length c.share-share.ensures) c.loop-place-test.true in
           absurd (none_at k.share c.loop-place.place below (block_at c.share-share.result.now k.share c.loop-place.place None c.share-share.ensures w.in_default.ensures)))
->>>>>>> fd8dbc16da705803a73a70aa69e7eec07545b8aa
     ]

@@ -1,9 +1,5 @@
 -- The first block that can run.
-<<<<<<< HEAD
-use Rattle.std.proofs.Common.{◌≡◌, ℕ, List, Option, Some, None, refl, sym, ap, ◌∙◌, subst, slice_get, length, arith}
-=======
 use Rattle.std.proofs.Common.{◌≡◌, ℕ, List, Option, Some, refl, sym, ap, ◌∙◌, subst, slice_get, length, arith}
->>>>>>> d334543c983d25bb783936c176aeeb568b212a18
 use Rattle.std.specs.Option.{option_map}
 use Rattle.dc_base.specs.Outcomes.{share_blocks}
 use Rattle.dc_base.specs.States.{Block, Core, Member}
