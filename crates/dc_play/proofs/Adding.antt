@@ -29,13 +29,16 @@ pub writes_failed : {T : Type 0} (a b : Option (List ℕ)) (t : List ℕ) (r : R
 writes_failed a b t (Ok x) h g = cc
 writes_failed a b t (Err f) h g = g
 
--- what was written behind what was added
-pub writes_behind : {T : Type 0} (a b c : Option (List ℕ)) (s t : List ℕ) (r : Result T Failed) → Adds a b s → Writes b c t r → Writes a c (s ++ t) r
-writes_behind a b c s t (Ok x) h g = adds_more a b c s t h g
-writes_behind a b c s t (Err failed) h g = record {
+-- a part behind what was added
+pub prefix_behind : (a b c : Option (List ℕ)) (s t : List ℕ) → Adds a b s → AddsPrefix b c t → AddsPrefix a c (s ++ t)
+prefix_behind a b c s t h g = record {
   part = s ++ g.part;
   rest = g.rest;
   whole = ap (λ (xs : List ℕ). s ++ xs) g.whole ∙ sym (append_assoc s g.part g.rest);
   adds = adds_more a b c s g.part h g.adds;
 }
 
+-- what was written behind what was added
+pub writes_behind : {T : Type 0} (a b c : Option (List ℕ)) (s t : List ℕ) (r : Result T Failed) → Adds a b s → Writes b c t r → Writes a c (s ++ t) r
+writes_behind a b c s t (Ok x) h g = adds_more a b c s t h g
+writes_behind a b c s t (Err failed) h g = prefix_behind a b c s t h g

@@ -1,4 +1,5 @@
 pub mod Adding
+pub mod Playing
 pub mod PlayTexts
 pub mod ReportTexts
 pub mod Rises

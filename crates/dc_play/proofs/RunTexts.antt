@@ -35,4 +35,3 @@ run_all-goes_on r [] = record { more = []; longer = sym (append-nil r.journal) }
 run_all-goes_on r (a ∷ more) =
     let next : Run = after_outcome r a.1 (core_step r.state r.polls a.0 a.1) in
     goes_on_twice r next (run_all next more) (goes_on_by r a.1 (core_step r.state r.polls a.0 a.1)) (run_all-goes_on next more)
-

@@ -1,3 +1,4 @@
+pub mod Playing
 pub mod Plays
 pub mod ReportLines
 pub mod Summaries

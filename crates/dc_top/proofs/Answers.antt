@@ -1,13 +1,19 @@
 -- What was written, with its status, is what a call answers.
-use Rattle.std.proofs.Common.{◌≡◌, ◌⊎◌, ◌<◌, ◌≤◌, ℕ, List, [], refl, sym, ap, ◌∙◌, subst, arith, inl, inr, Option, Some, None, Result, Ok, Err, replicate}
+use Rattle.std.proofs.Common.{◌≡◌, ◌⊎◌, ◌<◌, ◌≤◌, ℕ, List, refl, sym, ap, ◌∙◌, subst, arith, inl, inr, Option, Some, None, Result, Ok, Err}
 use Rattle.std.specs.Prelude.{OnErr, IfSome}
 use Rattle.dc_base.specs.declared.images.Image.{Image}
 use Rattle.dc_base.specs.Results.{◌>>=◌}
-use Rattle.dc_base.specs.States.{State}
 use Rattle.dc_base.specs.TextWords.{ended}
 use Rattle.dc_base.specs.FaultText.{read_fault_line}
-use Rattle.dc_base.specs.PlayText.{played_text, play_text}
 use Rattle.dc_io.specs.declared.sinks.Failed.{Failed}
+use Rattle.dc_io.specs.declared.sinks.Ended.{Ended}
+use Rattle.dc_io.specs.declared.sinks.Ended.TheVariants as end
+use Rattle.dc_io.specs.Told.{Adds}
+use Rattle.dc_base.specs.PlayText.{play_text}
+use Rattle.dc_base.specs.declared.commands.ScriptLine.{ScriptLine}
+use Rattle.dc_play.specs.Plays.{Plays}
+use Rattle.dc_play.specs.Written.{Writes}
+use Rattle.dc_top.specs.Written.{WritesAs, whole, part, status_for, PlaysAs, whole_text, part_of_text, no_text, status_of_play}
 use Rattle.dc_io.specs.Counts.{Rose}
 use Rattle.dc_top.specs.declared.halts.Halt.{Halt}
 use Rattle.dc_top.specs.declared.halts.Halt.TheVariants as halt
@@ -15,13 +21,10 @@ use Rattle.dc_top.specs.declared.refusals.Refusal.{Refusal}
 use Rattle.dc_top.specs.declared.refusals.Refusal.TheVariants as why
 use Rattle.dc_top.specs.Calls.{Call, FaultOf, IsPlayStatus, PlayAnswers, verdict, read_fault, write_fault, both_faults, no_memory}
 use Rattle.dc_top.specs.Halts.{Files, Halts, HaltTold, IsReady, verdict_of, name_of}
-use Rattle.dc_top.specs.Playing.{step_action, steps_run}
 use Rattle.dc_top.specs.Refusals.{Verdict, line_of, status_of}
 use Rattle.dc_base.specs.declared.actions.Actor.{Actor}
 use Rattle.dc_base.specs.declared.actions.Action.{Action}
 use Rattle.dc_top.specs.Verdict.{Inputs, bounds_of, done, either_verdict, schedule_read, play_verdict}
-use Rattle.dc_top.specs.Written.{Writes, WritesAs, whole, part, status_for}
-use Rattle.dc_top.proofs.ImageTexts.{played_text-image}
 
 pub writes_as : {T : Type 0} (f g : ℕ) (a b : Option (List ℕ)) (status : ℕ) (text : List ℕ) (r : Result T Failed) → Writes a b text r → OnErr r (Rose f g) → WritesAs f g a b status text (status_for r status)
 writes_as f g a b status text (Ok x) w rose = whole w
@@ -45,21 +48,55 @@ module _ (image script schedule : List ℕ) (files : List ℕ → List ℕ) (cal
   unread_answers name result fault rose (whole adds) = read_fault name fault rose adds
   unread_answers name result fault rose (part failed prefix) = both_faults name fault rose failed prefix
 
--- the verdict of files that are accepted is the text of the steps
-pub ready_verdict : (image script schedule : List ℕ) (s : State) (n : ℕ) → IsReady image script schedule s n → play_verdict image script schedule ≡ done (played_text (steps_run s n))
+-- the verdict of files that are accepted is the text of the run
+pub ready_verdict : (image script schedule : List ℕ) (i : Image) (s : List ScriptLine) (a : List (Actor × Action)) → IsReady image script schedule i s a → play_verdict image script schedule ≡ done (play_text i s a)
 unfolding play_verdict
-ready_verdict image script schedule s n r =
+ready_verdict image script schedule i s a r =
     ap (λ (x : Result Inputs Verdict). either_verdict (x >>= (λ m. schedule_read (bounds_of m.image) schedule >>= (λ a. Ok (done (play_text m.image m.script a)))))) r.inputs
-    ∙ ap (λ (x : Result (List (Actor × Action)) Verdict). either_verdict (x >>= (λ a. Ok (done (play_text r.machine [] a))))) r.actions ∙ ap done (sym (played_text-image r.machine n s r.start))
+    ∙ ap (λ (x : Result (List (Actor × Action)) Verdict). either_verdict (x >>= (λ a. Ok (done (play_text i s a))))) r.actions
+
+-- what was written of a play, with its status
+module _ (f g : ℕ) (a b : Option (List ℕ)) (text : List ℕ) where
+  pub plays_as : {T : Type 0} (r : Result T Ended) → Plays f g a b text r → PlaysAs f g a b text (status_of_play r)
+  plays_as (Ok x) w = whole_text w
+  plays_as (Err end.Sink) w = part_of_text w.0 w.1
+  plays_as (Err end.Memory) w = no_text w
+
+  pub written_as : {T : Type 0} (r : Result T Failed) → Writes a b text r → OnErr r (Rose f g) → PlaysAs f g a b text (status_for r 0)
+  written_as (Ok x) w rose = whole_text w
+  written_as (Err failed) w rose = part_of_text rose w
+
+  pub plays_whole : (result : ℕ) → PlaysAs f g a b text result → result ≡ 0 → Adds a b text
+  plays_whole result (whole_text adds) e = adds
+  plays_whole result (part_of_text rose prefix) e = absurd (omega (arith, e))
+  plays_whole result (no_text same) e = absurd (omega (arith, e))
+
+  pub plays_write_fault : (result : ℕ) → PlaysAs f g a b text result → result ≡ 6 → Rose f g
+  plays_write_fault result (whole_text adds) e = absurd (omega (arith, e))
+  plays_write_fault result (part_of_text rose prefix) e = rose
+  plays_write_fault result (no_text same) e = absurd (omega (arith, e))
+
+  pub plays_no_memory : (result : ℕ) → PlaysAs f g a b text result → result ≡ 7 → b ≡ a
+  plays_no_memory result (whole_text adds) e = absurd (omega (arith, e))
+  plays_no_memory result (part_of_text rose prefix) e = absurd (omega (arith, e))
+  plays_no_memory result (no_text same) e = same
+
+  pub plays_status : (result : ℕ) → PlaysAs f g a b text result → (result ≡ 0) ⊎ ((6 ≤ result) × (result ≤ 7))
+  plays_status result (whole_text adds) = inl refl
+  plays_status result (part_of_text rose prefix) = inr (omega arith, omega arith)
+  plays_status result (no_text same) = inr (omega arith, omega arith)
+
+  pub plays_no_read : (result : ℕ) → PlaysAs f g a b text result → result ≡ 5 → ⊥
+  plays_no_read result w e = elim (plays_status result w) [ inl is_0 ↦ omega (arith, is_0, e) | inr high ↦ omega (arith, high.0, e) ]
+
+  pub plays_listed : (result : ℕ) → PlaysAs f g a b text result → IsPlayStatus result
+  plays_listed result w = elim (plays_status result w) [ inl is_0 ↦ inl is_0 | inr high ↦ inr (omega (arith, high.0), high.1) ]
 
 -- a refusal has a status from 2 to 4
 status_of_file : (r : Refusal) → (1 < status_of r) × (status_of r ≤ 4)
 status_of_file (why.Image f) = (omega arith, omega arith)
-status_of_file why.ImageNotBuilt = (omega arith, omega arith)
 status_of_file (why.Script f) = (omega arith, omega arith)
-status_of_file why.ScriptNotBuilt = (omega arith, omega arith)
 status_of_file (why.Schedule f) = (omega arith, omega arith)
-status_of_file why.ScheduleNotBuilt = (omega arith, omega arith)
 
 -- the status of a text, whole or not
 whole_or_6 : (f g : ℕ) (a b : Option (List ℕ)) (status : ℕ) (text : List ℕ) (result : ℕ) → WritesAs f g a b status text result → (result ≡ status) ⊎ ((result ≡ 6) × Rose f g)
@@ -67,12 +104,14 @@ whole_or_6 f g a b status text result (whole adds) = inl refl
 whole_or_6 f g a b status text result (part rose prefix) = inr (refl, rose)
 
 module _ (image script schedule : List ℕ) where
-  pub played_answers : (files : Files) (call : Call) (s : State) (n : ℕ) (r : Result (Unit {0}) Failed) → IfSome files (λ f. IsReady (f image) (f script) (f schedule) s n) →
-      Writes call.told call.told_after (played_text (steps_run s n)) r → OnErr r (Rose call.sink_faults call.sink_faults_after) → IfSome files (λ f. PlayAnswers image script schedule f call (status_for r 0))
-  played_answers None call s n r ready w rose = cc
-  played_answers (Some f) call s n r ready w rose =
-      verdict_answers image script schedule f call (done (played_text (steps_run s n))) (status_for r 0) (ready_verdict (f image) (f script) (f schedule) s n ready)
-      (writes_as call.sink_faults call.sink_faults_after call.told call.told_after 0 (played_text (steps_run s n)) r w rose)
+  pub played_answers : (files : Files) (call : Call) (i : Image) (s : List ScriptLine) (a : List (Actor × Action)) (result : ℕ) → IfSome files (λ f. IsReady (f image) (f script) (f schedule) i s a) →
+      PlaysAs call.sink_faults call.sink_faults_after call.told call.told_after (play_text i s a) result → IfSome files (λ f. PlayAnswers image script schedule f call result)
+  played_answers None call i s a result ready w = cc
+  played_answers (Some f) call i s a result ready (whole_text adds) =
+      verdict_answers image script schedule f call (done (play_text i s a)) result (ready_verdict (f image) (f script) (f schedule) i s a ready) (whole adds)
+  played_answers (Some f) call i s a result ready (part_of_text rose prefix) =
+      verdict_answers image script schedule f call (done (play_text i s a)) result (ready_verdict (f image) (f script) (f schedule) i s a ready) (part rose prefix)
+  played_answers (Some f) call i s a result ready (no_text same) = no_memory same
 
   pub halt_answers : (files : Files) (call : Call) (h : Halt) (result : ℕ) → Halts files image script schedule call.shelf_faults call.shelf_faults_after h →
       HaltTold h image script schedule call.sink_faults call.sink_faults_after call.told call.told_after result → IfSome files (λ f. PlayAnswers image script schedule f call result)

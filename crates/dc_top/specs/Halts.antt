@@ -1,9 +1,10 @@
 -- Why nothing is played, by the files.
-use Rattle.std.specs.Prelude.{◌≡◌, ◌<◌, ℕ, length, List, [], Option, IfSome, Result, Ok, Err, replicate, ⊤}
+use Rattle.std.specs.Prelude.{◌≡◌, ◌<◌, ℕ, length, List, Option, IfSome, Result, Ok, Err, ⊤}
 use Rattle.dc_base.specs.declared.images.Image.{Image}
-use Rattle.dc_base.specs.States.{State, core_start}
+use Rattle.dc_base.specs.declared.actions.Actor.{Actor}
+use Rattle.dc_base.specs.declared.actions.Action.{Action}
+use Rattle.dc_base.specs.declared.commands.ScriptLine.{ScriptLine}
 use Rattle.dc_base.specs.TextWords.{longest_file, ended}
-use Rattle.dc_base.specs.Valid.{IsValid}
 use Rattle.dc_base.specs.FaultText.{read_fault_line}
 use Rattle.dc_io.specs.Counts.{Rose}
 use Rattle.dc_top.specs.declared.refusals.Refusal.{Refusal}
@@ -12,10 +13,7 @@ use Rattle.dc_top.specs.declared.halts.Halt.TheVariants as halt
 use Rattle.dc_top.specs.declared.halts.Which.{Which}
 use Rattle.dc_top.specs.declared.halts.Which.TheVariants as which
 use Rattle.dc_top.specs.Refusals.{Verdict, line_of, status_of}
-use Rattle.dc_top.specs.Verdict.{image_read, inputs_read, schedule_read, play_verdict}
-use Rattle.dc_top.specs.Verdict as verdict
-use Rattle.dc_top.specs.Playing.{step_action}
-use Rattle.dc_base.specs.declared.commands.Bounds.{Bounds}
+use Rattle.dc_top.specs.Verdict.{bounds_of, inputs_read, schedule_read, play_verdict}
 use Rattle.dc_top.specs.Calls.{FaultOf}
 use Rattle.dc_top.specs.Written.{WritesAs}
 
@@ -63,18 +61,7 @@ RefusedBy read (halt.Refused r) = read ≡ Err (verdict_of r)
 RefusedBy read (halt.Unread w) = ⊥
 RefusedBy read halt.Memory = ⊤
 
--- the start of the image that these bytes are, and the bounds of its scripts and schedules
-pub record IsStartOf (bytes : List ℕ) (s : State) (bounds : Bounds) : Type 0 where
-  pub image : Image
-  pub read : image_read bytes ≡ Ok image
-  pub valid : IsValid image
-  pub start : s ≡ core_start image []
-  pub bounds_of : bounds ≡ verdict.bounds_of image
-
--- the start of the image, and the steps, of files that are accepted
-pub record IsReady (image script schedule : List ℕ) (s : State) (steps : ℕ) : Type 0 where
-  pub machine : Image
-  pub inputs : inputs_read image script ≡ Ok (record { image = machine; script = [] })
-  pub valid : IsValid machine
-  pub start : s ≡ core_start machine []
-  pub actions : schedule_read (verdict.bounds_of machine) schedule ≡ Ok (replicate steps step_action)
+-- the image, the script and the schedule of files that are accepted
+pub record IsReady (image script schedule : List ℕ) (i : Image) (s : List ScriptLine) (a : List (Actor × Action)) : Type 0 where
+  pub inputs : inputs_read image script ≡ Ok (record { image = i; script = s })
+  pub actions : schedule_read (bounds_of i) schedule ≡ Ok a

@@ -1,14 +1,6 @@
 pub mod Calls
-pub mod First
-pub mod FirstEnds
-pub mod FirstImages
-pub mod FirstReport
-pub mod FirstSchedules
-pub mod FirstSteps
 pub mod Halts
-pub mod Playing
 pub mod Refusals
 pub mod Requests
-pub mod Steps
 pub mod Verdict
 pub mod Written

@@ -1,7 +1,7 @@
 -- What is told where nothing is played.
 use Rattle.std.specs.Prelude.{ℕ, List, [], ◌∷◌, Option, Some, None, codes}
 use Rattle.dc_base.specs.TextWords.{ended}
-use Rattle.dc_base.specs.FaultText.{ImageRefusal, text_fault_line, image_fault_line, usage_line, play_form}
+use Rattle.dc_base.specs.FaultText.{ImageRefusal, text_fault_line, image_fault_line, usage_line, play_form, gen_form}
 use Rattle.dc_image.specs.Faults.{refusal_of}
 use Rattle.dc_top.specs.declared.refusals.Refusal.{Refusal}
 use Rattle.dc_top.specs.declared.refusals.Refusal.TheVariants as why
@@ -16,16 +16,7 @@ abbrev pub told : ℕ → List ℕ → Verdict
 told status line = record { status = status; text = ended line }
 
 abbrev pub usage : List ℕ
-usage = usage_line (play_form ∷ [])
-
-abbrev pub image_not_built : List ℕ
-image_not_built = codes "image: not built yet"
-
-abbrev pub script_not_built : List ℕ
-script_not_built = codes "script: not built yet"
-
-abbrev pub schedule_not_built : List ℕ
-schedule_not_built = codes "schedule: not built yet"
+usage = usage_line (play_form ∷ gen_form ∷ [])
 
 abbrev pub image_line : Option ImageRefusal → List ℕ
 image_line None = []
@@ -34,17 +25,11 @@ image_line (Some r) = image_fault_line r
 -- the line of a refusal; none for want of memory
 abbrev pub line_of : Refusal → List ℕ
 line_of (why.Image f) = image_line (refusal_of f)
-line_of why.ImageNotBuilt = image_not_built
 line_of (why.Script f) = text_fault_line (codes "script") f
-line_of why.ScriptNotBuilt = script_not_built
 line_of (why.Schedule f) = text_fault_line (codes "schedule") f
-line_of why.ScheduleNotBuilt = schedule_not_built
 
 -- 2, 3 and 4 for the image, the script and the schedule
 abbrev pub status_of : Refusal → ℕ
 status_of (why.Image f) = 2
-status_of why.ImageNotBuilt = 2
 status_of (why.Script f) = 3
-status_of why.ScriptNotBuilt = 3
 status_of (why.Schedule f) = 4
-status_of why.ScheduleNotBuilt = 4

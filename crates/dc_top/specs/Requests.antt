@@ -1,15 +1,28 @@
 -- What the words of a command ask for.
-use Rattle.std.specs.Prelude.{ℕ, List, [], ◌∷◌, if◌then◌else◌, Option, Some, None, IfSome, MatchOption}
-use Rattle.dc_base.specs.TextWords.{is_word, ended}
+use Rattle.std.specs.Prelude.{ℕ, List, [], ◌∷◌, length, nat_lt, nat_le, if◌then◌else◌, Option, Some, None, IfSome, MatchOption}
+use Rattle.std.specs.Option.{option_map}
+use Rattle.dc_base.specs.PlayText.{gen_text}
+use Rattle.dc_base.specs.TextWords.{is_word, number_of, ended}
+use Rattle.dc_io.specs.Told.{Adds}
 use Rattle.dc_top.specs.Calls.{Call, PlayAnswers, TellsRun, Wrote}
 use Rattle.dc_top.specs.Refusals.{usage}
-use Rattle.dc_top.specs.Written.{WritesAs}
+use Rattle.dc_top.specs.Written.{PlaysAs, WritesAs}
 
 -- what the words of a command ask for; a file is given by its name
 pub data Request : Type 0 where
   play : (image script schedule : List ℕ) → Request
+  gen : ℕ → Request
+
+abbrev pub if_small : Option ℕ → Option ℕ
+if_small None = None
+if_small (Some n) = if nat_le n 65535 then Some n else None
+
+-- the number of a generated input: 1 to 5 decimal digits, and at most 65,535
+unfoldable pub gen_number : List ℕ → Option ℕ
+gen_number word = if nat_lt 5 (length word) then None else if_small (number_of word)
 
 unfoldable pub request_of : List (List ℕ) → Option Request
+request_of (name ∷ n ∷ []) = if is_word "gen" name then option_map gen (gen_number n) else None
 request_of (name ∷ image ∷ script ∷ schedule ∷ []) = if is_word "play" name then Some (play image script schedule) else None
 request_of words = None
 
@@ -17,14 +30,17 @@ request_of words = None
 abbrev pub UsageTold : Call → ℕ → Type 0
 UsageTold call status = WritesAs call.sink_faults call.sink_faults_after call.told call.told_after 1 (ended usage) status
 
-abbrev pub RequestAnswers : (List ℕ → List ℕ) → Call → ℕ → Request → Type 0
-RequestAnswers files call status (play image script schedule) = PlayAnswers image script schedule files call status
+-- a play is answered where the files are told, and the summary of a generated input always
+abbrev pub RequestAnswers : Option (List ℕ → List ℕ) → Call → ℕ → Request → Type 0
+RequestAnswers files call status (play image script schedule) = IfSome files (λ f. PlayAnswers image script schedule f call status)
+RequestAnswers files call status (gen n) = PlaysAs call.sink_faults call.sink_faults_after call.told call.told_after (gen_text n) status
 
--- what the words ask for is answered, where the files are told
+-- what the words ask for is answered
 abbrev pub CommandAnswers : List (List ℕ) → Option (List ℕ → List ℕ) → Call → ℕ → Type 0
-CommandAnswers words files call status = MatchOption (request_of words) (UsageTold call status) (λ request. IfSome files (λ f. RequestAnswers f call status request))
+CommandAnswers words files call status = MatchOption (request_of words) (UsageTold call status) (λ request. RequestAnswers files call status request)
 
--- what was written for a request that was done tells a run of the files that it names
+-- what was written for a request that was done: a text that tells a run of the files that a play names, or the summary of the generated input
 abbrev pub RequestTold : Option (List ℕ → List ℕ) → Option (List ℕ) → Option (List ℕ) → Option Request → Type 0
 RequestTold shelf before after None = ⊥
 RequestTold shelf before after (Some (play image script schedule)) = Wrote shelf before after (λ files text. TellsRun (files image) (files script) text)
+RequestTold shelf before after (Some (gen n)) = Adds before after (gen_text n)

@@ -1,5 +1,5 @@
 -- What `play` answers to the bytes of three files, where nothing fails.
-use Rattle.std.specs.Prelude.{ℕ, List, [], if◌then◌else◌, Option, Some, None, length, replicate, Result, Ok, Err, codes, nat_lt}
+use Rattle.std.specs.Prelude.{ℕ, List, length, Result, Ok, Err, codes}
 use Rattle.dc_base.specs.declared.images.Image.{Image}
 use Rattle.dc_base.specs.declared.actions.Actor.{Actor}
 use Rattle.dc_base.specs.declared.actions.Action.{Action}
@@ -11,9 +11,7 @@ use Rattle.dc_base.specs.FaultText.{ImageRefusal, text_fault_line, image_fault_l
 use Rattle.dc_base.specs.PlayText.{play_text}
 use Rattle.dc_base.specs.ScriptText.{script_of, schedule_of}
 use Rattle.dc_image.specs.ImageOf.{image_of}
-use Rattle.dc_top.specs.FirstImages.{is_first_image, is_none}
-use Rattle.dc_top.specs.FirstSchedules.{are_steps}
-use Rattle.dc_top.specs.Refusals.{Verdict, told, image_not_built, script_not_built, schedule_not_built}
+use Rattle.dc_top.specs.Refusals.{Verdict, told}
 
 abbrev pub done : List ℕ → Verdict
 done text = record { status = 0; text = text }
@@ -26,12 +24,9 @@ either_verdict (Err v) = v
 abbrev pub image_refused : ImageRefusal → Verdict
 image_refused refusal = told 2 (image_fault_line refusal)
 
-abbrev pub if_first : Image → Result Image Verdict
-if_first image = if is_first_image image then Ok image else Err (told 2 image_not_built)
-
 -- the image of a file, or the refusal of the file
 unfoldable pub image_read : List ℕ → Result Image Verdict
-image_read bytes = fault_as image_refused (image_of bytes) >>= if_first
+image_read bytes = fault_as image_refused (image_of bytes)
 
 abbrev pub bounds_of : Image → Bounds
 bounds_of image = record { cores = length image.cores; blocks = length image.blocks; lines = image.lines }
@@ -39,22 +34,16 @@ bounds_of image = record { cores = length image.cores; blocks = length image.blo
 abbrev pub script_refused : TextFault → Verdict
 script_refused fault = told 3 (text_fault_line (codes "script") fault)
 
-abbrev pub if_empty : List ScriptLine → Result (List ScriptLine) Verdict
-if_empty script = if is_none script then Ok script else Err (told 3 script_not_built)
-
 -- the script of a file, or the refusal of the file
 unfoldable pub script_read : Bounds → List ℕ → Result (List ScriptLine) Verdict
-script_read bounds bytes = fault_as script_refused (script_of bounds bytes) >>= if_empty
+script_read bounds bytes = fault_as script_refused (script_of bounds bytes)
 
 abbrev pub schedule_refused : TextFault → Verdict
 schedule_refused fault = told 4 (text_fault_line (codes "schedule") fault)
 
-abbrev pub if_steps : List (Actor × Action) → Result (List (Actor × Action)) Verdict
-if_steps schedule = if are_steps schedule then Ok schedule else Err (told 4 schedule_not_built)
-
 -- the schedule of a file, or the refusal of the file
 unfoldable pub schedule_read : Bounds → List ℕ → Result (List (Actor × Action)) Verdict
-schedule_read bounds bytes = fault_as schedule_refused (schedule_of bounds bytes) >>= if_steps
+schedule_read bounds bytes = fault_as schedule_refused (schedule_of bounds bytes)
 
 -- an image, and a script for it
 pub record Inputs : Type 0 where

@@ -1,12 +1,10 @@
--- What was written of a text: all of it, or a part that it begins with.
-use Rattle.std.specs.Prelude.{ℕ, List, Option, Result, Ok, Err}
+-- What was written of a text, with its status.
+use Rattle.std.specs.Prelude.{◌≡◌, ℕ, List, Option, Result, Ok, Err}
 use Rattle.dc_io.specs.declared.sinks.Failed.{Failed}
+use Rattle.dc_io.specs.declared.sinks.Ended.{Ended}
+use Rattle.dc_io.specs.declared.sinks.Ended.TheVariants as ended
 use Rattle.dc_io.specs.Counts.{Rose}
 use Rattle.dc_io.specs.Told.{Adds, AddsPrefix}
-
-abbrev pub Writes : {T : Type 0} → Option (List ℕ) → Option (List ℕ) → List ℕ → Result T Failed → Type 0
-Writes before after text (Ok x) = Adds before after text
-Writes before after text (Err failed) = AddsPrefix before after text
 
 -- the status where the text was written whole, and 6 where a put failed
 abbrev pub status_for : {T : Type 0} → Result T Failed → ℕ → ℕ
@@ -17,3 +15,15 @@ status_for (Err failed) status = 6
 pub data WritesAs (faults faults_after : ℕ) (told told_after : Option (List ℕ)) (status : ℕ) (text : List ℕ) : ℕ → Type 0 where
   whole : Adds told told_after text → WritesAs faults faults_after told told_after status text status
   part : Rose faults faults_after → AddsPrefix told told_after text → WritesAs faults faults_after told told_after status text 6
+
+-- 0 where the text of a play was written whole, 6 where a put failed, and 7 where memory was wanting
+abbrev pub status_of_play : {T : Type 0} → Result T Ended → ℕ
+status_of_play (Ok x) = 0
+status_of_play (Err ended.Sink) = 6
+status_of_play (Err ended.Memory) = 7
+
+-- a text was written with 0, or a part of it, where a put failed, with 6, or nothing, where memory was wanting, with 7
+pub data PlaysAs (faults faults_after : ℕ) (told told_after : Option (List ℕ)) (text : List ℕ) : ℕ → Type 0 where
+  whole_text : Adds told told_after text → PlaysAs faults faults_after told told_after text 0
+  part_of_text : Rose faults faults_after → AddsPrefix told told_after text → PlaysAs faults faults_after told told_after text 6
+  no_text : told_after ≡ told → PlaysAs faults faults_after told told_after text 7

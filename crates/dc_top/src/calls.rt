@@ -1,30 +1,29 @@
 //! The top calls.
 
 ghost use Rattle.std.specs.Prelude.{◌≡◌, IfSome};
+ghost use Rattle.dc_base.specs.PlayText.{play_text};
+ghost use Rattle.dc_base.specs.States.{settings_of};
+ghost use Rattle.dc_base.specs.Valid.{IsValid, IsValidScript, IsValidSchedule};
 ghost use Rattle.dc_io.specs.Counts.{Rose};
 ghost use Rattle.dc_top.specs.Calls.{IsPlayStatus, PlayAnswers, TellsRun, Wrote};
 ghost use Rattle.dc_top.specs.Halts.{HaltTold, name_of};
-ghost use Rattle.dc_top.specs.Written as spec;
+ghost use Rattle.dc_top.specs.Written.{PlaysAs};
 
-use crate::first::playing::play;
 use crate::halts::{Halt, Which};
 use crate::loads::load_play;
 use crate::refusals::{put_read_fault, put_refusal, status_of};
+use crate::statuses::{status_for, status_of_play};
+use dc_base::images::Image;
+use dc_edf::EdfDriver;
 use dc_headline::every_run_is_reported;
-use dc_io::{Failed, Shelf, Sink};
+use dc_io::{Shelf, Sink};
+use dc_kernel::Both;
+use dc_play::play;
 use dc_ranges::entries_are_in_range;
+use dc_rr::RrDriver;
+use dc_script::{Schedule, Script};
 use dc_spelling::what_is_spelled_is_read;
 use std::alloc::Global;
-
-/// The status where the text was written whole, and 6 where a put failed.
-pub(crate) fn status_for(outcome: Result<(), Failed>, status: u8) -> u8
-    ensures { result ≡ spec.status_for outcome status }
-{
-    match outcome {
-        Ok(()) => status,
-        Err(_) => 6,
-    }
-}
 
 fn name_of<'a>(which: Which, image: &'a str, script: &'a str, schedule: &'a str) -> &'a str
     ensures { result.now ≡ name_of which image.now script.now schedule.now }
@@ -51,10 +50,28 @@ fn tell<S: Sink>(halt: Halt, image: &str, script: &str, schedule: &str, sink: &m
     }
 }
 
+/// Plays with both kernels, and says the status.
+#[tactic(auto, using(crate::proofs::Answers::plays_as))]
+fn play_inputs<S: Sink>(
+    alloc: Global,
+    image: &Image,
+    script: &Script,
+    schedule: &Schedule,
+    sink: &mut S,
+) -> u8
+    requires image { IsValid image.now }
+    requires script { IsValidScript (settings_of image.now) script.now }
+    requires schedule { IsValidSchedule (settings_of image.now) schedule.now }
+    ensures { PlaysAs (S.faults sink.old) (S.faults sink.new) (S.told sink.old) (S.told sink.new) (play_text image.now script.now schedule.now) result }
+{
+    let played = play::<Both<RrDriver, EdfDriver>, S>(alloc, image, script, schedule, sink);
+    status_of_play(played)
+}
+
 /// Loads and reads an image, a script and a schedule, and stops at the first fault; then plays the schedule, and writes the journal and the report, one line a piece.
 /// The answer is a status: 0 where the whole text was written; 2, 3 or 4 where the image, the script or the schedule is refused, with a line that says why; 5 where a
 /// file could not be read, with a line that names it; 6 where a put failed, with a part of the text that belongs to the case; 7 where memory was wanting, with nothing.
-#[tactic(auto, using(crate::proofs::Answers::played_answers, crate::proofs::Answers::halt_answers, crate::proofs::Answers::halt_read_fault, crate::proofs::Answers::halt_write_fault, crate::proofs::Answers::halt_no_memory, crate::proofs::Answers::halt_listed))]
+#[tactic(auto, using(crate::proofs::Answers::plays_write_fault, crate::proofs::Answers::plays_no_memory, crate::proofs::Answers::plays_no_read, crate::proofs::Answers::plays_listed, crate::proofs::Answers::halt_answers, crate::proofs::Answers::halt_read_fault, crate::proofs::Answers::halt_write_fault, crate::proofs::Answers::halt_no_memory, crate::proofs::Answers::halt_listed))]
 pub fn play_call<H: Shelf, S: Sink>(
     alloc: Global,
     shelf: &mut H,
@@ -85,7 +102,7 @@ pub fn play_call<H: Shelf, S: Sink>(
     entries_are_in_range();
     what_is_spelled_is_read();
     match load_play(alloc, image, script, schedule, shelf) {
-        Ok((machine, steps)) => status_for(play(machine, steps, sink), 0),
+        Ok((machine, lines, actions)) => play_inputs(alloc, &machine, &lines, &actions, sink),
         Err(halt) => tell(halt, image, script, schedule, sink),
     }
 }

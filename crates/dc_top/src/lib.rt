@@ -1,16 +1,17 @@
-//! The top calls: a play of three files, and the command line.
+//! The top calls: a play of three files, the summary of a generated input, and the command line.
 #![tactic(auto)]
 
 mod calls;
 mod commands;
-mod first;
+mod generated;
 mod halts;
 mod inputs;
 mod loads;
 mod refusals;
+mod statuses;
 #[cfg(test)]
 mod tests;
-mod writing;
 
 pub use calls::play_call;
 pub use commands::command;
+pub use generated::gen_call;

@@ -1,29 +1,24 @@
 //! The files of a play, loaded and read.
 
-ghost use Rattle.std.specs.Prelude.{◌≡◌, ◌≤◌, ◌^◌, ◌<◌, [], IfOk, IfErr, IfSome, OnOk, Ok, length, replicate};
+ghost use Rattle.std.specs.Prelude.{◌≡◌, ◌≤◌, ◌<◌, IfOk, IfErr, IfSome, Ok, length};
+ghost use Rattle.dc_base.specs.States.{Settings, settings_of};
 ghost use Rattle.dc_base.specs.TextWords.{longest_file};
-ghost use Rattle.dc_top.specs.First.{state_of};
-ghost use Rattle.dc_top.specs.FirstImages.{first_bounds};
-ghost use Rattle.dc_top.specs.Halts.{Halts, HaltsAt, IsReady, IsStartOf, MissesAt};
-ghost use Rattle.dc_top.specs.Playing.{step_action};
+ghost use Rattle.dc_base.specs.Valid.{IsValid, IsValidScript, IsValidSchedule};
+ghost use Rattle.dc_script.specs.Texts.{AreBounds};
+ghost use Rattle.dc_top.specs.Halts.{Halts, HaltsAt, IsReady, MissesAt};
 ghost use Rattle.dc_top.specs.Verdict.{image_read, script_read, schedule_read};
+ghost use Rattle.dc_top.specs.Verdict as verdict;
 ghost use Rattle.dc_top.specs.declared.halts.Which.TheVariants as which;
 
-use crate::first::machine::FirstMachine;
 use crate::halts::{Halt, Which};
-use crate::inputs::{accept_script, machine_of, steps_of};
+use crate::inputs::{image_in, schedule_in, script_in};
 use crate::refusals::Refusal;
 use dc_base::commands::Bounds;
 use dc_base::faults::{ImageFault, TextFault};
+use dc_base::images::Image;
 use dc_io::{Load, Shelf};
+use dc_script::{Schedule, Script};
 use std::alloc::Global;
-
-/// What the scripts and schedules of an image of one core and one block may name.
-const FIRST_BOUNDS: Bounds = Bounds {
-    cores: 1,
-    blocks: 1,
-    lines: 0,
-};
 
 /// Loads a file into an empty vector, and says what a failure is.
 fn load<H: Shelf>(
@@ -48,63 +43,77 @@ fn load<H: Shelf>(
     }
 }
 
-/// The machine of an image file, at its start.
+/// The image of a file.
 #[tactic(auto, using(crate::proofs::Loading::image_misses, crate::proofs::Loading::image_refuses, crate::proofs::Loading::image_serves))]
-fn load_machine<H: Shelf>(alloc: Global, name: &str, shelf: &mut H) -> Result<FirstMachine, Halt>
-    ensures machine { IfOk result (λ m. IfSome (H.told shelf.old) (λ files. IsStartOf (files name.now) (state_of m) first_bounds)) }
+fn load_image<H: Shelf>(alloc: Global, name: &str, shelf: &mut H) -> Result<Image, Halt>
+    ensures image { IfOk result (λ image. IfSome (H.told shelf.old) (λ files. image_read (files name.now) ≡ Ok image)) }
+    ensures valid { IfOk result IsValid }
     ensures halts { IfErr result (HaltsAt which.Image (H.told shelf.old) image_read name.now (H.faults shelf.old) (H.faults shelf.new)) }
     ensures kept { H.told shelf.new ≡ H.told shelf.old }
     ensures grows { H.faults shelf.old ≤ H.faults shelf.new }
 {
     let too_long = Refusal::Image(ImageFault::TooLong);
     match load(alloc, name, shelf, Which::Image, too_long) {
-        Ok(bytes) => machine_of(alloc, bytes.as_slice()),
+        Ok(bytes) => image_in(alloc, bytes.as_slice()),
         Err(halt) => Err(halt),
     }
 }
 
-/// Whether a script file has no line.
+/// The script of a file.
 #[tactic(auto, using(crate::proofs::Loading::script_misses, crate::proofs::Loading::script_refuses, crate::proofs::Loading::script_serves))]
 fn load_script<H: Shelf>(
     alloc: Global,
     name: &str,
     bounds: Bounds,
     shelf: &mut H,
-) -> Result<(), Halt>
-    ensures script { OnOk result (IfSome (H.told shelf.old) (λ files. script_read bounds (files name.now) ≡ Ok [])) }
+) -> Result<Script, Halt>
+    ensures script { IfOk result (λ script. IfSome (H.told shelf.old) (λ files. script_read bounds (files name.now) ≡ Ok script)) }
+    ensures valid { IfOk result (λ script. (t : Settings) → AreBounds bounds t → IsValidScript t script) }
     ensures halts { IfErr result (HaltsAt which.Script (H.told shelf.old) (script_read bounds) name.now (H.faults shelf.old) (H.faults shelf.new)) }
     ensures kept { H.told shelf.new ≡ H.told shelf.old }
     ensures grows { H.faults shelf.old ≤ H.faults shelf.new }
 {
     let too_long = Refusal::Script(TextFault::TooLong);
     match load(alloc, name, shelf, Which::Script, too_long) {
-        Ok(bytes) => accept_script(alloc, bytes.as_slice(), bounds),
+        Ok(bytes) => script_in(alloc, bytes.as_slice(), bounds),
         Err(halt) => Err(halt),
     }
 }
 
-/// How many steps a schedule file asks for.
+/// The schedule of a file.
 #[tactic(auto, using(crate::proofs::Loading::schedule_misses, crate::proofs::Loading::schedule_refuses, crate::proofs::Loading::schedule_serves))]
 fn load_schedule<H: Shelf>(
     alloc: Global,
     name: &str,
     bounds: Bounds,
     shelf: &mut H,
-) -> Result<usize, Halt>
-    ensures steps { IfOk result (λ steps. IfSome (H.told shelf.old) (λ files. schedule_read bounds (files name.now) ≡ Ok (replicate steps step_action))) }
-    ensures few { IfOk result (λ steps. steps < 2 ^ 62) }
+) -> Result<Schedule, Halt>
+    ensures schedule { IfOk result (λ schedule. IfSome (H.told shelf.old) (λ files. schedule_read bounds (files name.now) ≡ Ok schedule)) }
+    ensures valid { IfOk result (λ schedule. (t : Settings) → AreBounds bounds t → IsValidSchedule t schedule) }
     ensures halts { IfErr result (HaltsAt which.Schedule (H.told shelf.old) (schedule_read bounds) name.now (H.faults shelf.old) (H.faults shelf.new)) }
     ensures kept { H.told shelf.new ≡ H.told shelf.old }
     ensures grows { H.faults shelf.old ≤ H.faults shelf.new }
 {
     let too_long = Refusal::Schedule(TextFault::TooLong);
     match load(alloc, name, shelf, Which::Schedule, too_long) {
-        Ok(bytes) => steps_of(alloc, bytes.as_slice(), bounds),
+        Ok(bytes) => schedule_in(alloc, bytes.as_slice(), bounds),
         Err(halt) => Err(halt),
     }
 }
 
-/// The machine of an image at its start, and the steps that a schedule asks for, of three files.
+/// What the scripts and schedules of an image may name.
+fn bounds_of(image: &Image) -> Bounds
+    requires { IsValid image.now }
+    ensures { result ≡ verdict.bounds_of image.now }
+{
+    Bounds {
+        cores: image.cores.len() as u32,
+        blocks: image.blocks.len() as u32,
+        lines: image.lines,
+    }
+}
+
+/// The image, the script and the schedule of three files, each within what the one before it has.
 #[tactic(auto, using(crate::proofs::Loading::image_halts))]
 pub fn load_play<H: Shelf>(
     alloc: Global,
@@ -112,22 +121,25 @@ pub fn load_play<H: Shelf>(
     script: &str,
     schedule: &str,
     shelf: &mut H,
-) -> Result<(FirstMachine, usize), Halt>
-    ensures ready { IfOk result (λ r. IfSome (H.told shelf.old) (λ files. IsReady (files image.now) (files script.now) (files schedule.now) (state_of r.0) r.1)) }
-    ensures few { IfOk result (λ r. r.1 < 2 ^ 62) }
+) -> Result<(Image, Script, Schedule), Halt>
+    ensures ready { IfOk result (λ r. IfSome (H.told shelf.old) (λ files. IsReady (files image.now) (files script.now) (files schedule.now) r.0 r.1 r.2)) }
+    ensures valid_image { IfOk result (λ r. IsValid r.0) }
+    ensures valid_script { IfOk result (λ r. IsValidScript (settings_of r.0) r.1) }
+    ensures valid_schedule { IfOk result (λ r. IsValidSchedule (settings_of r.0) r.2) }
     ensures halts { IfErr result (Halts (H.told shelf.old) image.now script.now schedule.now (H.faults shelf.old) (H.faults shelf.new)) }
     ensures grows { H.faults shelf.old ≤ H.faults shelf.new }
 {
-    let machine = match load_machine(alloc, image, shelf) {
+    let machine = match load_image(alloc, image, shelf) {
         Ok(machine) => machine,
         Err(halt) => return Err(halt),
     };
-    match load_script(alloc, script, FIRST_BOUNDS, shelf) {
-        Ok(()) => {}
+    let bounds = bounds_of(&machine);
+    let lines = match load_script(alloc, script, bounds, shelf) {
+        Ok(lines) => lines,
         Err(halt) => return Err(halt),
-    }
-    match load_schedule(alloc, schedule, FIRST_BOUNDS, shelf) {
-        Ok(steps) => Ok((machine, steps)),
+    };
+    match load_schedule(alloc, schedule, bounds, shelf) {
+        Ok(actions) => Ok((machine, lines, actions)),
         Err(halt) => Err(halt),
     }
 }

@@ -6,23 +6,20 @@ ghost use Rattle.dc_base.specs.FaultText.{code_kind_words, image_fault_line, rea
 ghost use Rattle.dc_base.specs.TextWords.{ended};
 ghost use Rattle.dc_image.specs.Faults.{refusal_of};
 ghost use Rattle.dc_io.specs.Counts.{Rose};
+ghost use Rattle.dc_play.specs.Written.{Writes};
 ghost use Rattle.dc_top.specs.Refusals as spec;
-ghost use Rattle.dc_top.specs.Written.{Writes};
 
-use crate::writing::{put_line, put_text};
 use dc_base::faults::{AsmKind, ImageFault, Key, TextFault, TextKind};
 use dc_io::{Failed, Sink};
+use dc_play::{put_line, put_text};
 use dc_text::{Line, push_u32};
 
 /// Why a file is refused. Want of memory is no refusal, and has no line.
 #[derive(Debug, Drop)]
 pub enum Refusal {
     Image(ImageFault),
-    ImageNotBuilt,
     Script(TextFault),
-    ScriptNotBuilt,
     Schedule(TextFault),
-    ScheduleNotBuilt,
 }
 
 /// The status of a refusal.
@@ -31,11 +28,8 @@ pub fn status_of(refusal: &Refusal) -> u8
 {
     match refusal {
         Refusal::Image(_) => 2,
-        Refusal::ImageNotBuilt => 2,
         Refusal::Script(_) => 3,
-        Refusal::ScriptNotBuilt => 3,
         Refusal::Schedule(_) => 4,
-        Refusal::ScheduleNotBuilt => 4,
     }
 }
 
@@ -155,11 +149,8 @@ fn line_of(refusal: &Refusal) -> Line
 {
     match refusal {
         Refusal::Image(fault) => image_line(fault),
-        Refusal::ImageNotBuilt => line_with("image: not built yet"),
         Refusal::Script(fault) => text_line("script", *fault),
-        Refusal::ScriptNotBuilt => line_with("script: not built yet"),
         Refusal::Schedule(fault) => text_line("schedule", *fault),
-        Refusal::ScheduleNotBuilt => line_with("schedule: not built yet"),
     }
 }
 

@@ -1,4 +1,4 @@
-use crate::{command, play_call};
+use crate::{command, gen_call, play_call};
 use dc_base::lists::Items;
 use dc_io::{MemFile, MemShelf, MemSink, Open};
 use std::alloc::{AllocError, Global};
@@ -35,6 +35,44 @@ ready 0 0
 skipped 0
 end
 ";
+
+// The second core is off, and its step is skipped.
+const CORE_OFF: &str = "\
+report
+core 0 on rr clock 0 home 0 share 0 used 0
+core 1 off clock 0 used 0
+block 0 core 0 time 0 armed 0
+disp 0 0 ready place 0 due 0
+ready 0 0
+skipped 1
+end
+";
+
+// No order was posted, and the core's asking for one is skipped.
+const NO_ORDER: &str = "\
+report
+core 0 on rr clock 0 home 0 share 0 used 0
+block 0 core 0 time 0 armed 0
+disp 0 0 ready place 0 due 0
+ready 0 0
+skipped 1
+end
+";
+
+// The first step of the hello example, and an order that is skipped.
+const ONE_STEP: &str = "\
+0 core 0 slice 0 0 fired 0 ran 1 call out clock 2
+report
+core 0 on rr clock 2 home 0 share 0 used 1
+block 0 core 0 time 2 armed 0
+disp 0 0 ready place 2 due 0
+ready 0 0
+out 0 7
+skipped 1
+end
+";
+
+const USAGE: &str = "usage: dc play IMAGE SCRIPT SCHEDULE | dc gen N\n";
 
 const TRAP_1: &str = "\
 0 core 0 slice 0 0 fired 0 ran 0 trap 1 clock 1
@@ -140,19 +178,26 @@ fn plays_write_their_texts_and_refusals_their_lines(rt: HostRuntime) -> Result<(
             "image: missing block.0.disp.0.code\n",
         ),
         (
-            ("code = \"halt\"\n[[core]]", "stop 0\n", ""),
-            2,
-            "image: not built yet\n",
+            ("code = \"halt\"\n[[core]]", "", "core 1 step\n"),
+            0,
+            CORE_OFF,
         ),
+        ((HELLO, "stop 0\n", "core 0 order\n"), 0, NO_ORDER),
+        ((HELLO, "", "core 0 step\ncore 0 order\n"), 0, ONE_STEP),
         (
-            (HELLO, "stop 0\n", "core 0 order\n"),
+            (HELLO, "stop 1\n", "core 0 step\n"),
             3,
-            "script: not built yet\n",
+            "script line 1: bad number\n",
         ),
         (
-            (HELLO, "", "core 0 step\ncore 0 order\n"),
+            (HELLO, "raise 0\n", "core 0 step\n"),
+            3,
+            "script line 1: bad number\n",
+        ),
+        (
+            (HELLO, "", "core 1 step\n"),
             4,
-            "schedule: not built yet\n",
+            "schedule line 1: bad number\n",
         ),
         (
             (HELLO, "#\nstop 9\n", STEP),
@@ -215,34 +260,73 @@ fn each_load_that_fails_is_told_by_its_file(rt: HostRuntime) -> Result<(), Fail>
     Ok(())
 }
 
+// What these words, with a space between each two, are answered and what is written.
+fn check_command(
+    rt: &impl Abort,
+    alloc: Global,
+    line: &str,
+    status: u8,
+    text: &str,
+) -> Result<(), Fail> {
+    let image = format!(in alloc; "{BARE}{HELLO}")?;
+    let mut words = Vec::new(alloc);
+    for word in line.split_whitespace() {
+        words.push(String::from_str(alloc, word)?)?;
+    }
+    let mut shelf = shelf(alloc, image.as_str(), "", THREE_STEPS, 9)?;
+    let mut sink = sink(alloc, 99)?;
+    assert_eq!(rt;
+        command(alloc, words.as_slice(), &mut shelf, &mut sink, &Open),
+        status,
+        "{line}"
+    );
+    assert_eq!(rt; sink.bytes(), text.as_bytes(), "{line}");
+    Ok(())
+}
+
+#[test]
+fn words_of_a_form_ask_for_a_play(rt: HostRuntime) -> Result<(), Fail> {
+    check_command(&rt, rt.alloc(), "play image script schedule", 0, EXPECTED)
+}
+
 #[test]
 fn words_of_no_form_are_answered_by_the_usage(rt: HostRuntime) -> Result<(), Fail> {
-    let alloc = rt.alloc();
-    let image = format!(in alloc; "{BARE}{HELLO}")?;
-    for (line, status, text) in [
-        ("play image script schedule", 0, EXPECTED),
-        (
-            "play image script",
-            1,
-            "usage: dc play IMAGE SCRIPT SCHEDULE\n",
-        ),
-        (
-            "run image script schedule",
-            1,
-            "usage: dc play IMAGE SCRIPT SCHEDULE\n",
-        ),
+    for line in [
+        "",
+        "gen",
+        "play image script",
+        "run image script schedule",
+        "play image script schedule more",
+        "gen 65536",
+        "gen x",
+        "gen +1",
+        "gen 000001",
+        "gen 1 2",
+        "run 1",
     ] {
-        let mut words = Vec::new(alloc);
-        for word in line.split_whitespace() {
-            words.push(String::from_str(alloc, word)?)?;
-        }
-        let mut shelf = shelf(alloc, image.as_str(), "", THREE_STEPS, 9)?;
-        let mut sink = sink(alloc, 99)?;
-        assert_eq!(&rt;
-            command(alloc, words.as_slice(), &mut shelf, &mut sink, &Open),
-            status
-        );
-        assert_eq!(&rt; sink.bytes(), text.as_bytes());
+        check_command(&rt, rt.alloc(), line, 1, USAGE)?;
+    }
+    Ok(())
+}
+
+#[test]
+fn a_generated_input_is_played_and_summed_up(rt: HostRuntime) -> Result<(), Fail> {
+    let text = "entries 1912\nskipped 118088\noutputs 450\nsum 426052\n";
+    check_command(&rt, rt.alloc(), "gen 00001", 0, text)
+}
+
+#[test]
+fn each_put_of_a_summary_that_fails_leaves_the_lines_before_it(
+    rt: HostRuntime,
+) -> Result<(), Fail> {
+    for (failing, text) in [
+        (1, ""),
+        (2, "entries 1912\n"),
+        (4, "entries 1912\nskipped 118088\noutputs 450\n"),
+    ] {
+        let mut sink = sink(rt.alloc(), failing)?;
+        assert_eq!(&rt; gen_call(rt.alloc(), &mut sink, 1), 6, "put {failing}");
+        assert_eq!(&rt; sink.bytes(), text.as_bytes(), "put {failing}");
     }
     Ok(())
 }

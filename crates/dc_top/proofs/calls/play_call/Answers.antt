@@ -1,7 +1,4 @@
-use Rattle.std.proofs.Common.{ℕ, subst, sym}
-use Rattle.std.specs.Prelude.{IfSome}
-use Rattle.dc_top.specs.Calls.{Call, PlayAnswers}
-use Rattle.dc_top.specs.First.{state_of}
+use Rattle.dc_top.specs.Calls.{Call}
 use Rattle.dc_top.proofs.Answers.{played_answers, halt_answers, halt_not_done}
 use Rattle.dc_top.proofs.Headlines.{played_tells}
 use Rattle.dc_top.proofs.calls.play_call.Goals as goal
@@ -12,14 +9,13 @@ returns-in-Ok-clause-answers g c =
       shelf_faults = g.H.Shelf.faults c.args.shelf.now;
       shelf_faults_after = g.H.Shelf.faults c.load_play.new.shelf;
       sink_faults = g.S.Sink.faults c.args.sink.now;
-      sink_faults_after = g.S.Sink.faults c.play.new.sink;
+      sink_faults_after = g.S.Sink.faults c.play_inputs.new.sink;
       told = g.S.Sink.told c.args.sink.now;
-      told_after = g.S.Sink.told c.play.new.sink;
+      told_after = g.S.Sink.told c.play_inputs.new.sink;
     }
     in
-    subst (λ (n : ℕ). IfSome (g.H.Shelf.told c.args.shelf.now) (λ files. PlayAnswers c.args.image.now c.args.script.now c.args.schedule.now files call n)) (sym c.status_for.ensures)
-    (played_answers c.args.image.now c.args.script.now c.args.schedule.now (g.H.Shelf.told c.args.shelf.now) call (state_of c.in-Ok.machine) c.in-Ok.steps c.play.result c.in-Ok.ensures.ready c.play.ensures.writes
-    c.play.ensures.failed)
+    played_answers c.args.image.now c.args.script.now c.args.schedule.now (g.H.Shelf.told c.args.shelf.now) call c.in-Ok.machine c.in-Ok.lines c.in-Ok.actions c.play_inputs.result c.in-Ok.ensures.ready
+    c.play_inputs.ensures
 
 pub returns-in-Err-clause-answers : goal.returns-in-Err-clause-answers
 returns-in-Err-clause-answers g c =
@@ -36,8 +32,8 @@ returns-in-Err-clause-answers g c =
 pub returns-in-Ok-clause-headline : goal.returns-in-Ok-clause-headline
 returns-in-Ok-clause-headline g c =
     played_tells c.every_run_is_reported.ensures.reported c.entries_are_in_range.ensures.lines c.entries_are_in_range.ensures.ranges c.what_is_spelled_is_read.ensures c.args.image.now c.args.script.now
-    c.args.schedule.now (g.H.Shelf.told c.args.shelf.now) (g.S.Sink.told c.args.sink.now) (g.S.Sink.told c.play.new.sink) (state_of c.in-Ok.machine) c.in-Ok.steps c.play.result c.status_for.result
-    c.in-Ok.ensures.ready c.play.ensures.writes c.status_for.ensures
+    c.args.schedule.now (g.H.Shelf.told c.args.shelf.now) (g.S.Sink.told c.args.sink.now) (g.S.Sink.told c.play_inputs.new.sink) (g.S.Sink.faults c.args.sink.now) (g.S.Sink.faults c.play_inputs.new.sink)
+    c.in-Ok.machine c.in-Ok.lines c.in-Ok.actions c.play_inputs.result c.in-Ok.ensures.ready c.in-Ok.ensures.valid_image c.in-Ok.ensures.valid_script c.play_inputs.ensures
 
 pub returns-in-Err-clause-headline : goal.returns-in-Err-clause-headline
 returns-in-Err-clause-headline g c = λ is_0.

@@ -1,6 +1,6 @@
-use Rattle.std.proofs.Common.{◌≡◌, ◌∙◌, sym, true}
+use Rattle.std.proofs.Common.{◌≡◌, ◌∙◌, sym, true, false}
 use Rattle.dc_base.specs.TextWords.{is_word}
-use Rattle.dc_top.proofs.Commanding.{play_answered, play_told}
+use Rattle.dc_top.proofs.Commanding.{play_answered, play_told, usage_answered}
 use Rattle.dc_top.proofs.commands.command_of_three.Goals as goal
 
 pub returns-then-is_play-clause-headline : goal.returns-then-is_play-clause-headline
@@ -22,3 +22,17 @@ returns-then-is_play-clause-answers g c =
       told_after = g.S.Sink.told c.play_call.new.sink;
     })
     c.play_call.result named c.play_call.ensures.answers
+
+pub returns-else-is_play-clause-answers : goal.returns-else-is_play-clause-answers
+returns-else-is_play-clause-answers g c =
+    let other : is_word "play" c.args.form.now ≡ false = sym c.is_play.ensures ∙ c.if-is_play.false in
+    usage_answered c.args.form.now c.args.first.now c.args.second.now c.args.third.now (g.H.Shelf.told c.args.shelf.now)
+    (record {
+      shelf_faults = g.H.Shelf.faults c.args.shelf.now;
+      shelf_faults_after = g.H.Shelf.faults c.args.shelf.now;
+      sink_faults = g.S.Sink.faults c.args.sink.now;
+      sink_faults_after = g.S.Sink.faults c.tell_usage.new.sink;
+      told = g.S.Sink.told c.args.sink.now;
+      told_after = g.S.Sink.told c.tell_usage.new.sink;
+    })
+    c.tell_usage.result other c.tell_usage.ensures.told

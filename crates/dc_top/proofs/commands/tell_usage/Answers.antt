@@ -2,7 +2,8 @@ use Rattle.std.proofs.Common.{ℕ, List, subst, sym}
 use Rattle.dc_base.specs.FaultText.{usage_line}
 use Rattle.dc_base.specs.TextWords.{ended}
 use Rattle.dc_top.specs.Refusals.{usage}
-use Rattle.dc_top.specs.Written.{Writes, WritesAs}
+use Rattle.dc_play.specs.Written.{Writes}
+use Rattle.dc_top.specs.Written.{WritesAs}
 use Rattle.dc_top.proofs.Answers.{writes_as}
 use Rattle.dc_top.proofs.commands.tell_usage.Goals as goal
 

@@ -1,4 +1,4 @@
-use Rattle.dc_top.proofs.RunTexts.{writes_behind}
+use Rattle.dc_play.proofs.Adding.{writes_behind}
 use Rattle.dc_top.proofs.refusals.put_both.Goals as goal
 
 pub returns-clause-writes : goal.returns-clause-writes
