@@ -1,3 +1,4 @@
+pub mod Counting
 pub mod Playing
 pub mod Plays
 pub mod ReportLines

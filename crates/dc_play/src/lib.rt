@@ -1,10 +1,12 @@
 //! A schedule played on the machine of an image and a script: the text of the run, and its summary.
 #![tactic(auto)]
 
+mod counting;
 mod ends;
 mod lines;
 mod plays;
 mod summaries;
+mod totals;
 mod writing;
 
 pub use lines::{count_line, word_line};

@@ -7,10 +7,14 @@ ghost use Rattle.dc_base.specs.States.{settings_of};
 ghost use Rattle.dc_base.specs.Valid.{IsValid, IsValidScript, IsValidSchedule};
 ghost use Rattle.dc_play.specs.Summaries.{IsSummaryOf};
 
+use crate::counting::count_actions;
+use crate::totals::{sum_of, words_on};
 use dc_base::images::Image;
 use dc_base::memory::Memory;
 use dc_kernel::Driver;
+use dc_machine::objects;
 use dc_script::{Schedule, Script};
+use dc_sound::the_start_is_sound;
 use std::alloc::Global;
 
 /// What a run came to: the entries of its journal, the actions that made none, the words that its blocks put out, and the sum of these words modulo 2^32.
@@ -22,9 +26,9 @@ pub struct Summary {
     pub sum: u32,
 }
 
-/// Plays a schedule on the machine of an image and a script from its start, and sums up the run. Not written yet: it is always in want of memory.
+/// Plays a schedule on the machine of an image and a script from its start, and sums up the run.
 pub fn play_summary<D: Driver>(
-    _alloc: Global,
+    alloc: Global,
     image: &Image,
     script: &Script,
     schedule: &Schedule,
@@ -36,5 +40,14 @@ pub fn play_summary<D: Driver>(
     requires second { D.served Edf ≡ true }
     ensures { IfOk result (IsSummaryOf (core_run image.now script.now schedule.now)) }
 {
-    Err(Memory)
+    the_start_is_sound();
+    let mut objects = objects::<D>(alloc, image, script)?;
+    let counts = count_actions(&mut objects, schedule.as_slice());
+    let consoles = objects.consoles.as_slice();
+    Ok(Summary {
+        entries: counts.entries,
+        skipped: counts.skipped,
+        outputs: words_on(consoles),
+        sum: sum_of(consoles),
+    })
 }
