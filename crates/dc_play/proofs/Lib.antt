@@ -4,3 +4,6 @@ pub mod PlayTexts
 pub mod ReportTexts
 pub mod Rises
 pub mod RunTexts
+pub mod Steps
+pub mod Telling
+pub mod Starting

@@ -3,3 +3,5 @@ pub mod Plays
 pub mod ReportLines
 pub mod Summaries
 pub mod Written
+pub mod Played
+pub mod Telling

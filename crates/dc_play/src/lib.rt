@@ -4,6 +4,8 @@
 mod ends;
 mod lines;
 mod plays;
+mod reporting;
+mod schedules;
 mod summaries;
 mod writing;
 

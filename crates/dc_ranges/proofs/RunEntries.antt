@@ -28,7 +28,7 @@ turn_comes s p polls actor.Script action.Script = script_comes s p (polls s.scri
 turn_comes s p polls actor.Script action.Raise = raise_comes s p (next_raise s.script.lines s.script.raises)
 turn_comes s p polls actor.Script a = tt
 
-step_shows : (s : State) → IsSound s → (polls : ℕ) (who : Actor) (a : Action) → Shows (core_step s polls who a)
+pub step_shows : (s : State) → IsSound s → (polls : ℕ) (who : Actor) (a : Action) → Shows (core_step s polls who a)
 unfolding core_step
 step_shows s p polls who a = turn_comes s p (λ t. polls) who a
 
