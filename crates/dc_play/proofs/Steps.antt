@@ -6,19 +6,17 @@ use Rattle.dc_base.specs.declared.actions.Actor.TheVariants as actor
 use Rattle.dc_base.specs.declared.actions.Action.{Action}
 use Rattle.dc_base.specs.declared.actions.Action.TheVariants as action
 use Rattle.dc_base.specs.declared.entries.Entry.{Entry}
-use Rattle.dc_base.specs.declared.entries.Reason.{Reason}
-use Rattle.dc_base.specs.TextWords.{ended}
-use Rattle.dc_base.specs.EntryText.{entry_text, journal_text}
+use Rattle.dc_base.specs.EntryText.{journal_text}
 use Rattle.dc_base.specs.CoreRuns.{core_run_from}
 use Rattle.dc_base.specs.EntryRanges.{has_line}
 use Rattle.dc_base.specs.States.{State, Settings}
 use Rattle.dc_base.specs.Sound.{IsSound}
 use Rattle.dc_base.specs.Turns.{Outcome, did, not_enabled, spent}
-use Rattle.dc_base.specs.Changes.{Change, apply}
+use Rattle.dc_base.specs.Changes.{apply}
 use Rattle.dc_base.specs.Cores.{core_step}
 use Rattle.dc_base.specs.Valid.{IsActionOf}
 use Rattle.dc_io.specs.declared.sinks.Failed.{Failed}
-use Rattle.dc_io.specs.Told.{Adds, AddsPrefix}
+use Rattle.dc_io.specs.Told.{AddsPrefix}
 use Rattle.dc_machine.specs.Answers.{Answers, polls_then}
 use Rattle.dc_machine.specs.declared.turns.Stepped.{Stepped}
 use Rattle.dc_machine.specs.declared.turns.Stepped.TheVariants as stepped

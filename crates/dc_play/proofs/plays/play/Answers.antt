@@ -1,6 +1,4 @@
-use Rattle.std.proofs.Common.{◌≡◌, ℕ, List, sym, subst}
-use Rattle.dc_base.specs.PlayText.{played_text, play_text}
-use Rattle.dc_base.specs.CoreRuns.{core_run_from}
+use Rattle.std.proofs.Common.{ℕ, List, sym, subst}
 use Rattle.dc_base.specs.Sound.{IsSound}
 use Rattle.dc_io.specs.Told.{Adds, AddsPrefix}
 use Rattle.dc_objects.specs.States.{state_of}
