@@ -5,4 +5,7 @@ pub mod ReportTexts
 pub mod Rises
 pub mod RunTexts
 pub mod Sizes
+pub mod Starting
+pub mod Steps
+pub mod Telling
 pub mod WordSums

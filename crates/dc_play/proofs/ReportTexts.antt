@@ -9,7 +9,7 @@ use Rattle.dc_io.specs.Told.{Adds, AddsPrefix}
 use Rattle.dc_play.specs.ReportLines.{lines_text}
 use Rattle.dc_play.proofs.Adding.{adds_more, prefix_more}
 
-lines_text-append : (xs ys : List ReportLine) → lines_text (xs ++ ys) ≡ lines_text xs ++ lines_text ys
+pub lines_text-append : (xs ys : List ReportLine) → lines_text (xs ++ ys) ≡ lines_text xs ++ lines_text ys
 lines_text-append [] ys = refl
 lines_text-append (x ∷ xs) ys = ap (λ (t : List ℕ). ended (report_line_text x) ++ t) (lines_text-append xs ys) ∙ sym (append_assoc (ended (report_line_text x)) (lines_text xs) (lines_text ys))
 

@@ -1,6 +1,7 @@
 -- The actions of a valid schedule are of the machine at each state of a run.
-use Rattle.std.proofs.Common.{◌≡◌, ◌<◌, ◌≤◌, ℕ, ◌+◌, List, Some, None, refl, sym, ap, ◌∙◌, subst, arith, length, Bool, true, false}
+use Rattle.std.proofs.Common.{◌≡◌, ◌<◌, ◌≤◌, ℕ, ◌+◌, List, Some, None, refl, sym, ap, ◌∙◌, subst, arith, length, get_or, Bool, true, false}
 use Rattle.std.specs.Prelude.{slice_get, if◌then◌else◌}
+use Rattle.std.proofs.lemmas.Option.{slice_get-get_or}
 use Rattle.dc_base.specs.declared.actions.Actor.{Actor}
 use Rattle.dc_base.specs.declared.actions.Action.{Action}
 use Rattle.dc_base.specs.declared.actions.Action.TheVariants as action
@@ -19,6 +20,7 @@ use Rattle.dc_sound.proofs.Lengths.{same_lengths}
 use Rattle.dc_machine.specs.declared.turns.Stepped.{Stepped}
 use Rattle.dc_machine.specs.declared.turns.Stepped.TheVariants as stepped
 use Rattle.dc_machine.specs.Answers.{Answers, is_did, polls_then}
+use Rattle.dc_play.specs.declared.counting.Counts.{Counts}
 use Rattle.dc_play.specs.Counting.{HasSizesOf, IsCounting}
 use Rattle.dc_play.specs.Playing.{IsPlaying}
 use Rattle.dc_play.proofs.Playing.{makes, is_not_enabled, is_spent, adds_untold}
@@ -28,7 +30,7 @@ pub same_actions : (t u : Settings) (who : Actor) (a : Action) → u.cores ≡ t
 same_actions t u (actor.Core c) action.Step ec eb el h = (subst (λ n. c.0 < n) (sym ec) h.0, tt)
 same_actions t u (actor.Core c) action.Order ec eb el h = (subst (λ n. c.0 < n) (sym ec) h.0, tt)
 same_actions t u (actor.Core c) (action.Intake l) ec eb el h = (subst (λ n. c.0 < n) (sym ec) h.0, subst (λ n. l.0 < n) (sym el) h.1)
-same_actions t u (actor.Core c) (action.Wake b d) ec eb el h = (subst (λ n. c.0 < n) (sym ec) h.0, subst (λ n. b.0 < n) (sym eb) h.1, h.2)
+same_actions t u (actor.Core c) (action.Wake b d) ec eb el h = (subst (λ n. c.0 < n) (sym ec) h.0, (subst (λ n. b.0 < n) (sym eb) h.1.0, h.1.1))
 same_actions t u (actor.Core c) action.Script ec eb el h = absurd h
 same_actions t u (actor.Core c) action.Raise ec eb el h = absurd h
 same_actions t u actor.Script action.Script ec eb el h = tt
@@ -91,3 +93,21 @@ module _ (keeps : KeepsSound) (start : State) (schedule : List (Actor × Action)
   -- one action more was made and counted
   pub counted : Answers r state new (core_step state polls a.0 a.1) → polls_new ≡ polls_then a.1 polls (core_step state polls a.0 a.1) → IsCounting start schedule (i + 1) new polls_new (entries_then r entries) (skipped_then r skipped)
   counted q k = counted_by (core_step state polls a.0 a.1) refl q k
+
+-- the action at a place of the schedule
+pub listed : (schedule : List (Actor × Action)) (i : ℕ) (d : Actor × Action) → i < length schedule → slice_get schedule i ≡ Some (get_or schedule i d)
+listed schedule i d h = slice_get-get_or schedule i d h
+
+entries_by : (t : Bool) (n : Counts) → (if t then n.entries + 1 else n.entries) ≡ (if t then record n { entries = n.entries + 1 } else record n { skipped = n.skipped + 1 }).entries
+entries_by true n = refl
+entries_by false n = refl
+
+skipped_by : (t : Bool) (n : Counts) → (if t then n.skipped else n.skipped + 1) ≡ (if t then record n { entries = n.entries + 1 } else record n { skipped = n.skipped + 1 }).skipped
+skipped_by true n = refl
+skipped_by false n = refl
+
+pub entries_is : (r : Stepped) (n m : Counts) → m ≡ (if is_did r then record n { entries = n.entries + 1 } else record n { skipped = n.skipped + 1 }) → entries_then r n.entries ≡ m.entries
+entries_is r n m e = entries_by (is_did r) n ∙ sym (ap (λ (k : Counts). k.entries) e)
+
+pub skipped_is : (r : Stepped) (n m : Counts) → m ≡ (if is_did r then record n { entries = n.entries + 1 } else record n { skipped = n.skipped + 1 }) → skipped_then r n.skipped ≡ m.skipped
+skipped_is r n m e = skipped_by (is_did r) n ∙ sym (ap (λ (k : Counts). k.skipped) e)

@@ -4,3 +4,5 @@ pub mod Plays
 pub mod ReportLines
 pub mod Summaries
 pub mod Written
+pub mod Played
+pub mod Telling

@@ -5,6 +5,8 @@ mod counting;
 mod ends;
 mod lines;
 mod plays;
+mod reporting;
+mod schedules;
 mod summaries;
 mod totals;
 mod writing;
