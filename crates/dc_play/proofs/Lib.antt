@@ -7,5 +7,6 @@ pub mod RunTexts
 pub mod Sizes
 pub mod Starting
 pub mod Steps
+pub mod Summing
 pub mod Telling
 pub mod WordSums

@@ -39,11 +39,15 @@ fn with_one(counts: Counts, stepped: &Stepped) -> Counts
 }
 
 /// Makes the actions of a schedule, and counts them.
-pub(crate) fn count_actions<D: Driver>(objects: &mut Objects<D>, schedule: &[(Actor, Action)]) -> Counts
+pub(crate) fn count_actions<D: Driver>(
+    objects: &mut Objects<D>,
+    schedule: &[(Actor, Action)],
+) -> Counts
     requires sound { IsSound (state_of objects.old) }
     requires schedule { IsValidSchedule (state_of objects.old).script.settings schedule.now }
     requires first { D.served Rr ≡ true }
     requires second { D.served Edf ≡ true }
+    ensures sound { IsSound (state_of objects.new) }
     ensures state { state_of objects.new ≡ (core_run_from (state_of objects.old) schedule.now).state }
     ensures entries { result.entries ≡ length (core_run_from (state_of objects.old) schedule.now).journal }
     ensures skipped { result.skipped ≡ (core_run_from (state_of objects.old) schedule.now).skipped }

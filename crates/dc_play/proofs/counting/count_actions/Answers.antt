@@ -29,6 +29,6 @@ loop-i-preserved g c =
     let r = c.step-stepped.result in
     let n = c.loop-i.counts in
     let more = counted c.sound_keeps.ensures start c.args.schedule.now c.loop-i.i state c.loop-i.polls n.entries n.skipped c.loop-i.invariant _ (listed c.args.schedule.now c.loop-i.i _ c.loop-i-test.true) r new c.step-stepped.new.polls
-        c.step-stepped.ensures.few c.step-stepped.ensures.step c.step-stepped.ensures.polls in
+    c.step-stepped.ensures.few c.step-stepped.ensures.step c.step-stepped.ensures.polls in
     subst (λ (e : ℕ). IsCounting start c.args.schedule.now (c.loop-i.i + 1) new c.step-stepped.new.polls e c.with_one-counts.result.skipped) (entries_is r n c.with_one-counts.result c.with_one-counts.ensures)
-      (subst (λ (k : ℕ). IsCounting start c.args.schedule.now (c.loop-i.i + 1) new c.step-stepped.new.polls (entries_then r n.entries) k) (skipped_is r n c.with_one-counts.result c.with_one-counts.ensures) more)
+    (subst (λ (k : ℕ). IsCounting start c.args.schedule.now (c.loop-i.i + 1) new c.step-stepped.new.polls (entries_then r n.entries) k) (skipped_is r n c.with_one-counts.result c.with_one-counts.ensures) more)
