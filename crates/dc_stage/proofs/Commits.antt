@@ -39,7 +39,7 @@ module _ {Wh St En Ob Sc : Type 0} (meaning : Sc → Meaning Wh St En) (state : 
       let next : (i : ℕ) → after p log' i ≡ p.at (p.next now' a e) i = λ i. ap (λ z. p.at z i) (run_append p p.start r.log ((a, e) ∷ [])) in
       let stays : (i : ℕ) → has i v.holds ≢ true → after p log' i ≡ after p r.log i = λ i no. next i ∙ untouched now' a e i law.1 (not_true _ (λ t. no (held i (ap (has i) law.0 ∙ t)))) in
       let own_now : own a log' ≡ own a v.seen ++ (a, e) ∷ [] = own_append a r.log ((a, e) ∷ []) ∙ (λ k. ok.mine k ++ own_here a e k) in
-      let row : (j : ℕ) → get_or words' (j + 1) 0 ≡ get_or s.words (j + 1) 0 = λ j. get_or-set_other s.words 0 (j + 1) ((x + 1) % 2 ^ 64) 0 (λ h. omega arith) in
+      let word_stays : (j : ℕ) → get_or words' (j + 1) 0 ≡ get_or s.words (j + 1) 0 = λ j. get_or-set_other s.words 0 (j + 1) ((x + 1) % 2 ^ 64) 0 (λ h. omega arith) in
       let grown_lawful : IsLawful p log' = lawful_snoc p p.start r.log a e r.lawful law.1 in
       let few : (b : ℕ) → length (own b log') ≤ 2 ^ 56 = λ b. dite (ℕ_discrete b a)
       (λ h. subst (λ z. length (own z log') ≤ 2 ^ 56) (sym h) (let l = ap length own_now in let m = length-append (own a v.seen) ((a, e) ∷ []) in omega arith))
@@ -53,7 +53,7 @@ module _ {Wh St En Ob Sc : Type 0} (meaning : Sc → Meaning Wh St En) (state : 
         moved p state sc s r id v w words' s.homes log' at live live refl refl (λ i h. h)
             grown_lawful stays_crew (length-set s.words 0 ((x + 1) % 2 ^ 64) ∙ wide) (get_or-set_same s.words 0 ((x + 1) % 2 ^ 64) 0 (omega arith) ∙ new)
             few actors
-            record { scene = ok.scene; told = (ok.told.0 ++ (a, e) ∷ [], sym (append_assoc v.told ok.told.0 ((a, e) ∷ [])) ∙ ap (λ z. z ++ (a, e) ∷ []) ok.told.1); sees = ([], append-nil log'); mine = refl; small = ok.small; turn = λ i h. row i ∙ ok.turn i h; same = λ i h. refl; ever = ok.ever }
+            record { scene = ok.scene; told = (ok.told.0 ++ (a, e) ∷ [], sym (append_assoc v.told ok.told.0 ((a, e) ∷ [])) ∙ ap (λ z. z ++ (a, e) ∷ []) ok.told.1); sees = ([], append-nil log'); mine = refl; small = ok.small; turn = λ i h. word_stays i ∙ ok.turn i h; same = λ i h. refl; ever = ok.ever }
             (λ j u other there l. let o = r.each_view j u there l in
             let ne : u.actor ≢ a = λ h. other (r.apart j id u v there at l live h) in
             record {
@@ -62,12 +62,12 @@ module _ {Wh St En Ob Sc : Type 0} (meaning : Sc → Meaning Wh St En) (state : 
               sees = (o.sees.0 ++ (a, e) ∷ [], sym (append_assoc u.seen o.sees.0 ((a, e) ∷ [])) ∙ ap (λ z. z ++ (a, e) ∷ []) o.sees.1);
               mine = own_append u.actor r.log ((a, e) ∷ []) ∙ ((λ k. o.mine k ++ own_other u.actor a e ne k) ∙ append-nil (own u.actor u.seen));
               small = o.small;
-              turn = λ i h. row i ∙ o.turn i h;
+              turn = λ i h. word_stays i ∙ o.turn i h;
               same = λ i h. o.same i h ∙ sym (stays i (λ mine. ne (let t : u.actor + 1 ≡ a + 1 = sym (o.turn i h) ∙ ok.turn i mine in omega arith)));
               ever = o.ever;
             })
             (λ i lt. ⊎_elim
-            (λ h. inl (row i ∙ h.0, (h.1.0, h.1.1, h.1.2 ∙ sym (stays i (λ mine. let t : 0 ≡ a + 1 = sym h.0 ∙ ok.turn i mine in absurd (omega arith))))))
+            (λ h. inl (word_stays i ∙ h.0, (h.1.0, h.1.1, h.1.2 ∙ sym (stays i (λ mine. let t : 0 ≡ a + 1 = sym h.0 ∙ ok.turn i mine in absurd (omega arith))))))
             (λ h. inr (held_stays i s.views id v w at live (λ mine. mine) h))
             (r.each_turn i lt))
             (λ i b h. r.each_refusal id v at live i b h),

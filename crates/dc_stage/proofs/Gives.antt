@@ -29,7 +29,7 @@ module _ {Wh St En Ob Sc : Type 0} (meaning : Sc → Meaning Wh St En) (state : 
       let near' : i < length s.homes = omega (arith, many) in
       let wide : length s.words ≡ length s.homes + 1 = r.wide in
       let w : View Sc En = giving v i in let words' = set s.words (i + 1) 0 in let homes' = set s.homes i (some (Some x)) in
-      let row : (j : ℕ) → j ≢ i + 1 → get_or words' j 0 ≡ get_or s.words j 0 = λ j ne. get_or-set_other s.words (i + 1) j 0 0 ne in
+      let word_stays : (j : ℕ) → j ≢ i + 1 → get_or words' j 0 ≡ get_or s.words j 0 = λ j ne. get_or-set_other s.words (i + 1) j 0 0 ne in
       let here : get_or words' (i + 1) 0 ≡ 0 = get_or-set_same s.words (i + 1) 0 0 (omega arith) in
       let still : (j : ℕ) → has j (without i v.holds) ≡ true → (j ≢ i) × (has j v.holds ≡ true) = λ j g.
       let ne : j ≢ i = λ e. true≢false (sym g ∙ (ap (λ z. has z (without i v.holds)) e ∙ without_same i v.holds)) in (ne, sym (without_other j i v.holds ne) ∙ g) in
@@ -40,14 +40,14 @@ module _ {Wh St En Ob Sc : Type 0} (meaning : Sc → Meaning Wh St En) (state : 
         gives,
         tt,
         moved p state sc s r id v w words' homes' r.log at live live refl refl (λ j g. g)
-            r.lawful (crew_stays r.log r.log s.views r.crew id v w at live refl refl refl refl refl (λ b ne. refl)) (length-set s.words (i + 1) 0 ∙ (wide ∙ ap (λ z. z + 1) (sym (length-set s.homes i (some (Some x)))))) (row 0 (λ e. omega arith) ∙ r.long) r.few r.actors
-            record { scene = ok.scene; told = ok.told; sees = ok.sees; mine = ok.mine; small = ok.small; turn = λ j g. let k = still j g in row (j + 1) (far j k.0) ∙ ok.turn j k.1; same = λ j g. ok.same j (still j g).1; ever = λ j g. ok.ever j (still j g).1 }
+            r.lawful (crew_stays r.log r.log s.views r.crew id v w at live refl refl refl refl refl (λ b ne. refl)) (length-set s.words (i + 1) 0 ∙ (wide ∙ ap (λ z. z + 1) (sym (length-set s.homes i (some (Some x)))))) (word_stays 0 (λ e. omega arith) ∙ r.long) r.few r.actors
+            record { scene = ok.scene; told = ok.told; sees = ok.sees; mine = ok.mine; small = ok.small; turn = λ j g. let k = still j g in word_stays (j + 1) (far j k.0) ∙ ok.turn j k.1; same = λ j g. ok.same j (still j g).1; ever = λ j g. ok.ever j (still j g).1 }
             (λ j u other there l. let o = r.each_view j u there l in
-            record { scene = o.scene; told = o.told; sees = o.sees; mine = o.mine; small = o.small; turn = λ k g. row (k + 1) (λ e. other (r.apart j id u v there at l live (let t : y ≡ u.actor + 1 = ap (λ z. get_or s.words z 0) (sym e) ∙ o.turn k g in omega arith))) ∙ o.turn k g; same = o.same; ever = o.ever })
+            record { scene = o.scene; told = o.told; sees = o.sees; mine = o.mine; small = o.small; turn = λ k g. word_stays (k + 1) (λ e. other (r.apart j id u v there at l live (let t : y ≡ u.actor + 1 = ap (λ z. get_or s.words z 0) (sym e) ∙ o.turn k g in omega arith))) ∙ o.turn k g; same = o.same; ever = o.ever })
             (λ j lt. dite (ℕ_discrete j i)
             (λ e. inl (ap (λ z. get_or words' (z + 1) 0) e ∙ here, (x, ap (get_elem? homes') e ∙ set_here s.homes i (some (Some x)) near', right ∙ (ok.same i mine ∙ ap (after p r.log) (sym e)))))
             (λ ne. ⊎_elim
-            (λ (g : IsHome p state r.log s.words s.homes j). inl (row (j + 1) (far j ne) ∙ g.0, (g.1.0, set_else s.homes i j (some (Some x)) ne ∙ g.1.1, g.1.2)))
+            (λ (g : IsHome p state r.log s.words s.homes j). inl (word_stays (j + 1) (far j ne) ∙ g.0, (g.1.0, set_else s.homes i j (some (Some x)) ne ∙ g.1.1, g.1.2)))
             (λ g. inr (held_stays j s.views id v w at live (λ h. without_other j i v.holds ne ∙ h) g))
             (r.each_turn j (subst (λ (z : ℕ). j < z) (length-set s.homes i (some (Some x))) lt))))
             (λ j b g. r.each_refusal id v at live j b g),

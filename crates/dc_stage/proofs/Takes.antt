@@ -38,20 +38,20 @@ module _ {Wh St En Ob Sc : Type 0} (meaning : Sc → Meaning Wh St En) (state : 
       (λ hit. ⊎_elim
       (λ (h : IsHome p state r.log s.words s.homes i).
       let w : View Sc En = taking v i r.log in let words' = set s.words (i + 1) (a + 1) in
-      let row : (j : ℕ) → j ≢ i + 1 → get_or words' j 0 ≡ get_or s.words j 0 = λ j ne. get_or-set_other s.words (i + 1) j (a + 1) 0 ne in
+      let word_stays : (j : ℕ) → j ≢ i + 1 → get_or words' j 0 ≡ get_or s.words j 0 = λ j ne. get_or-set_other s.words (i + 1) j (a + 1) 0 ne in
       let here : get_or words' (i + 1) 0 ≡ a + 1 = get_or-set_same s.words (i + 1) (a + 1) 0 (omega arith) in (
         w,
         takes i (Some h.1.0),
         h.1.1,
         moved p state sc s r id v w words' (set s.homes i none) r.log at live live refl refl (λ j g. has_tail j i v.took g)
-            r.lawful (crew_stays r.log r.log s.views r.crew id v w at live refl refl refl refl refl (λ b ne. refl)) (length-set s.words (i + 1) (a + 1) ∙ (wide ∙ ap (λ z. z + 1) (sym (length-set s.homes i none)))) (row 0 (λ e. omega arith) ∙ r.long) r.few r.actors
-            record { scene = ok.scene; told = ok.told; sees = ([], append-nil r.log); mine = refl; small = ok.small; turn = λ j g. ⊎_elim (λ e. subst (λ (z : ℕ). get_or words' (z + 1) 0 ≡ a + 1) (sym e) here) (λ m. row (j + 1) (λ e. not_mine (subst (λ (z : ℕ). has z v.holds ≡ true) (let q : j ≡ i = omega arith in q) m)) ∙ ok.turn j m) (has_cons j i v.holds g); same = λ j g. refl; ever = λ j g. ⊎_elim (λ e. has_head j i v.took e) (λ m. has_tail j i v.took (ok.ever j m)) (has_cons j i v.holds g) }
+            r.lawful (crew_stays r.log r.log s.views r.crew id v w at live refl refl refl refl refl (λ b ne. refl)) (length-set s.words (i + 1) (a + 1) ∙ (wide ∙ ap (λ z. z + 1) (sym (length-set s.homes i none)))) (word_stays 0 (λ e. omega arith) ∙ r.long) r.few r.actors
+            record { scene = ok.scene; told = ok.told; sees = ([], append-nil r.log); mine = refl; small = ok.small; turn = λ j g. ⊎_elim (λ e. subst (λ (z : ℕ). get_or words' (z + 1) 0 ≡ a + 1) (sym e) here) (λ m. word_stays (j + 1) (λ e. not_mine (subst (λ (z : ℕ). has z v.holds ≡ true) (let q : j ≡ i = omega arith in q) m)) ∙ ok.turn j m) (has_cons j i v.holds g); same = λ j g. refl; ever = λ j g. ⊎_elim (λ e. has_head j i v.took e) (λ m. has_tail j i v.took (ok.ever j m)) (has_cons j i v.holds g) }
             (λ j u other there l. let o = r.each_view j u there l in
-            record { scene = o.scene; told = o.told; sees = o.sees; mine = o.mine; small = o.small; turn = λ k g. row (k + 1) (λ e. let t : y ≡ u.actor + 1 = ap (λ z. get_or s.words z 0) (sym e) ∙ o.turn k g in omega arith) ∙ o.turn k g; same = o.same; ever = o.ever })
+            record { scene = o.scene; told = o.told; sees = o.sees; mine = o.mine; small = o.small; turn = λ k g. word_stays (k + 1) (λ e. let t : y ≡ u.actor + 1 = ap (λ z. get_or s.words z 0) (sym e) ∙ o.turn k g in omega arith) ∙ o.turn k g; same = o.same; ever = o.ever })
             (λ j lt. dite (ℕ_discrete j i)
             (λ e. inr (id, w, there s.views id v w at, live, has_head j i v.holds e))
             (λ ne. ⊎_elim
-            (λ (g : IsHome p state r.log s.words s.homes j). inl (row (j + 1) (λ e. ne (let q : j ≡ i = omega arith in q)) ∙ g.0, (g.1.0, set_else s.homes i j none ne ∙ g.1.1, g.1.2)))
+            (λ (g : IsHome p state r.log s.words s.homes j). inl (word_stays (j + 1) (λ e. ne (let q : j ≡ i = omega arith in q)) ∙ g.0, (g.1.0, set_else s.homes i j none ne ∙ g.1.1, g.1.2)))
             (λ g. inr (held_stays j s.views id v w at live (has_tail j i v.holds) g))
             (r.each_turn j (subst (λ (z : ℕ). j < z) (length-set s.homes i none) lt))))
             (λ j b g. r.each_refusal id v at live j b g),
