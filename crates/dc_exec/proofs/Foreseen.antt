@@ -39,12 +39,3 @@ module _ (time : ℕ) (code : List ℕ) (q i : ℕ) (more : i < q) (c : Context)
 
     pub stores-goes : (c' : Context) (memory' : List ℕ) → act time code c memory ≡ goes c' memory' → (changes ++ stores_at code c) ++ stores_ahead time code (q - (i + 1)) c' memory' ≡ all
     stores-goes c' memory' e = append_assoc changes (stores_at code c) _ ∙ stores-at (goes c' memory') e
-
-    pub stores-halts : act time code c memory ≡ halts → changes ≡ all
-    stores-halts e = sym (append-nil changes) ∙ stores-at halts e
-
-    pub stores-traps : (x : ℕ) → act time code c memory ≡ traps x → changes ≡ all
-    stores-traps x e = sym (append-nil changes) ∙ stores-at (traps x) e
-
-    pub stores-calls : {o : _} {j : _} → act time code c memory ≡ calls o j → changes ≡ all
-    stores-calls {o} {j} e = sym (append-nil changes) ∙ stores-at (calls o j) e

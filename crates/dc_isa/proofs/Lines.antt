@@ -44,17 +44,3 @@ split_none p (x ∷ xs) all = go (split_none p xs) (p x) refl
 -- without a newline the text is one line
 pub last_of_lines : (text : List ℕ) (end : ℕ) → end ≡ position_or_len (λ b. b == 10) text → length text ≤ end → lines_of text ≡ text ∷ []
 last_of_lines text end is past = split_none (λ b. b == newline) text (subst (λ n. length text ≤ n) is past)
-
--- a separator before the words
-pub words_skip : (line : List ℕ) (at : ℕ) → at < length line → separates (get_or line at 0) ≡ true → words_by separates (drop (at + 1) line) ≡ words_by separates (drop at line)
-words_skip line at within sep =
-    sym (ap (words_by separates) (drop_more line at 0 within) ∙ ap (λ t. if t then words_by separates (drop (at + 1) line) else words_after separates (get_or line at 0 ∷ []) (drop (at + 1) line)) sep)
-
--- one more byte of a word
-pub words_grow : (line : List ℕ) (at : ℕ) (words : List (List ℕ)) → at < length line → separates (get_or line at 0) ≡ false → words_after separates (take at line) (drop at line) ≡ words →
-    words_after separates (take (at + 1) line) (drop (at + 1) line) ≡ words
-words_grow line at words within sep told =
-    ap (λ w. words_after separates w (drop (at + 1) line)) (take_more line at 0 within)
-    ∙ sym (ap (words_after separates (take at line)) (drop_more line at 0 within)
-    ∙ ap (λ t. if t then if_any (take at line) ++ words_by separates (drop (at + 1) line) else words_after separates (take at line ++ get_or line at 0 ∷ []) (drop (at + 1) line)) sep)
-    ∙ told

@@ -1,54 +1,9 @@
 //! Instructions and their words.
 
-ghost use Rattle.std.specs.Prelude.{◌≡◌, ◌<◌, ◌^◌, IsTrue, IfSome};
+ghost use Rattle.std.specs.Prelude.{◌≡◌, ◌<◌, ◌^◌, Some, None, IsTrue, IfSome, if◌then◌else◌};
 ghost use Rattle.dc_base.specs.Instructions as spec;
 
 use dc_base::instructions::Instr;
-
-/// The instruction of an operation with these fields, in their ranges or not.
-#[tactic(auto, unfolding(dc_base::specs::Instructions::instr_at))]
-fn instr_at(operation: u32, a: u32, b: u32, imm: u32) -> Option<Instr>
-    ensures { result ≡ spec.instr_at operation a b imm }
-{
-    match operation {
-        0x01 => Some(Instr::Li { a, imm }),
-        0x02 => Some(Instr::Lih { a, imm }),
-        0x03 => Some(Instr::Mov { a, b }),
-        0x04 => Some(Instr::Add { a, b }),
-        0x05 => Some(Instr::Sub { a, b }),
-        0x06 => Some(Instr::Mul { a, b }),
-        0x07 => Some(Instr::And { a, b }),
-        0x08 => Some(Instr::Or { a, b }),
-        0x09 => Some(Instr::Xor { a, b }),
-        0x0A => Some(Instr::Shl { a, b }),
-        0x0B => Some(Instr::Shr { a, b }),
-        0x0C => Some(Instr::Beq { a, b, imm }),
-        0x0D => Some(Instr::Bne { a, b, imm }),
-        0x0E => Some(Instr::Bltu { a, b, imm }),
-        0x0F => Some(Instr::Jmp { imm }),
-        0x10 => Some(Instr::Ld { a, b, imm }),
-        0x11 => Some(Instr::St { a, b, imm }),
-        0x12 => Some(Instr::Rdt { a, b }),
-        0x13 => Some(Instr::Nop),
-        0x14 => Some(Instr::Halt),
-        0x20 => Some(Instr::Out { a }),
-        0x21 => Some(Instr::Yield),
-        0x22 => Some(Instr::Send { a, b, imm }),
-        0x23 => Some(Instr::Recv { a, b, imm }),
-        0x24 => Some(Instr::Csend { a, b, imm }),
-        0x25 => Some(Instr::Crecv { a, b, imm }),
-        0x26 => Some(Instr::Wait { a, b }),
-        0x27 => Some(Instr::Arm { a, b, imm }),
-        0x28 => Some(Instr::Copy { a, b, imm }),
-        0x29 => Some(Instr::Retype { a, b, imm }),
-        0x2A => Some(Instr::Delete { a }),
-        0x2B => Some(Instr::Revoke { a }),
-        0x2C => Some(Instr::Bind { a, b }),
-        0x2D => Some(Instr::Give { a, b }),
-        0x2E => Some(Instr::Claim { a, b, imm }),
-        _ => None,
-    }
-}
 
 fn is_immediate(imm: u32) -> bool
     ensures { result ≡ spec.is_immediate imm }
@@ -178,25 +133,71 @@ fn word_of(instr: &Instr) -> u32
     }
 }
 
+/// The instruction, if its fields are so.
+fn only(fields: bool, instr: Instr) -> Option<Instr>
+    ensures { result ≡ if fields then Some instr else None }
+{
+    if fields { Some(instr) } else { None }
+}
+
+/// The instruction of an operation with these fields. None where a field is out of its range, or is not used and not 0.
+#[tactic(auto, unfolding(dc_base::specs::Instructions::instr_at, dc_base::specs::Instructions::is_proper, dc_base::specs::Instructions::encode))]
+fn instr_of(operation: u32, a: u32, b: u32, imm: u32) -> Option<Instr>
+    requires a { a < 16 }
+    requires b { b < 16 }
+    requires imm { imm < 2 ^ 16 }
+    ensures { result ≡ spec.if_word (spec.word operation a b imm) (spec.instr_at operation a b imm) }
+{
+    match operation {
+        0x01 => only(a < 8 && b == 0, Instr::Li { a, imm }),
+        0x02 => only(a < 8 && b == 0, Instr::Lih { a, imm }),
+        0x03 => only(a < 8 && b < 8 && imm == 0, Instr::Mov { a, b }),
+        0x04 => only(a < 8 && b < 8 && imm == 0, Instr::Add { a, b }),
+        0x05 => only(a < 8 && b < 8 && imm == 0, Instr::Sub { a, b }),
+        0x06 => only(a < 8 && b < 8 && imm == 0, Instr::Mul { a, b }),
+        0x07 => only(a < 8 && b < 8 && imm == 0, Instr::And { a, b }),
+        0x08 => only(a < 8 && b < 8 && imm == 0, Instr::Or { a, b }),
+        0x09 => only(a < 8 && b < 8 && imm == 0, Instr::Xor { a, b }),
+        0x0A => only(a < 8 && b < 8 && imm == 0, Instr::Shl { a, b }),
+        0x0B => only(a < 8 && b < 8 && imm == 0, Instr::Shr { a, b }),
+        0x0C => only(a < 8 && b < 8, Instr::Beq { a, b, imm }),
+        0x0D => only(a < 8 && b < 8, Instr::Bne { a, b, imm }),
+        0x0E => only(a < 8 && b < 8, Instr::Bltu { a, b, imm }),
+        0x0F => only(a == 0 && b == 0, Instr::Jmp { imm }),
+        0x10 => only(a < 8 && b < 8, Instr::Ld { a, b, imm }),
+        0x11 => only(a < 8 && b < 8, Instr::St { a, b, imm }),
+        0x12 => only(a < 8 && b < 8 && imm == 0, Instr::Rdt { a, b }),
+        0x13 => only(a == 0 && b == 0 && imm == 0, Instr::Nop),
+        0x14 => only(a == 0 && b == 0 && imm == 0, Instr::Halt),
+        0x20 => only(a < 8 && b == 0 && imm == 0, Instr::Out { a }),
+        0x21 => only(a == 0 && b == 0 && imm == 0, Instr::Yield),
+        0x22 => Some(Instr::Send { a, b, imm }),
+        0x23 => Some(Instr::Recv { a, b, imm }),
+        0x24 => Some(Instr::Csend { a, b, imm }),
+        0x25 => Some(Instr::Crecv { a, b, imm }),
+        0x26 => only(b < 8 && imm == 0, Instr::Wait { a, b }),
+        0x27 => only(b < 8, Instr::Arm { a, b, imm }),
+        0x28 => only(imm < 256 && imm % 16 < 8, Instr::Copy { a, b, imm }),
+        0x29 => only(imm < 2, Instr::Retype { a, b, imm }),
+        0x2A => only(b == 0 && imm == 0, Instr::Delete { a }),
+        0x2B => only(b == 0 && imm == 0, Instr::Revoke { a }),
+        0x2C => only(imm == 0, Instr::Bind { a, b }),
+        0x2D => only(imm == 0, Instr::Give { a, b }),
+        0x2E => Some(Instr::Claim { a, b, imm }),
+        _ => None,
+    }
+}
+
 /// The instruction of a word. None where the word is no instruction's.
-#[tactic(auto, unfolding(dc_base::specs::Instructions::decode))]
+#[tactic(auto, unfolding(dc_base::specs::Instructions::decode), using(crate::proofs::WordLaws::word_of_fields, crate::proofs::WordLaws::decoded_back))]
 pub fn decode(word: u32) -> Option<Instr>
     ensures instr { result ≡ spec.decode word }
     ensures back { IfSome result (λ i. IsTrue (spec.is_proper i) × (spec.encode i ≡ word)) }
 {
-    match instr_at(
+    instr_of(
         word >> 24,
         (word >> 20) % 16,
         (word >> 16) % 16,
         word % 65536,
-    ) {
-        Some(instr) => {
-            if is_proper(&instr) && word_of(&instr) == word {
-                Some(instr)
-            } else {
-                None
-            }
-        }
-        None => None,
-    }
+    )
 }

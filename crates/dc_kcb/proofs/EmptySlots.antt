@@ -22,11 +22,3 @@ no_seat t s is le = none_past (16 * t.disps) s t.set is.slots (let h : t.disps �
 
 pub no_cap_past : (t : Caps) (s : ℕ) → IsTable t → 256 ≤ s → None ≡ cap_at t.set s
 no_cap_past t s is le = let e = no_seat t s is le in cc
-
--- an empty slot has no parent
-pub no_parent : (caps : List Seat) (s : ℕ) → None ≡ cap_at caps s → None ≡ parent_at caps s
-no_parent caps s h = by_seat (seat_at caps s) h
-  where
-    by_seat : (o : Option Seat) → ◌≡◌ {A = Option Cap} None (option_map (λ (h : Seat). h.cap) o) → None ≡ parent_in o
-    by_seat None h = refl
-    by_seat (Some x) h = absurd (none-some x.cap h)

@@ -33,13 +33,6 @@ waiting w ss d b lt e =
     let here : slice_get ss d ≡ Some (get_or ss d disp.Ready) = slice_get-get_or ss d disp.Ready lt in
     record { state = get_or ss d disp.Ready; here = here; waits = ap (λ o. option_map_or (waits_so w) o false) (sym here) ∙ e }
 
--- what waits so waits for something
-pub waits-some : (w : Wait) (s : DispState) → waits_so w s ≡ true → (v : Wait) × (s ≡ disp.Waits v)
-waits-some w disp.Ready e = absurd cc
-waits-some w disp.Halted e = absurd cc
-waits-some w (disp.Trapped x) e = absurd cc
-waits-some w (disp.Waits v) e = (v, refl)
-
 -- the dispatchers from i on wake
 abbrev pub rest_woken : ℕ → Wait → ControlBlock → ControlBlock
 rest_woken i w b = record b { states = take i b.states ++ map (state_after_wake w) (drop i b.states); ready = b.ready ++ waiters_from i w (drop i b.states) }

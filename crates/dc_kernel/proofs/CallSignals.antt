@@ -96,9 +96,6 @@ module _ (s : Store) (a a' : Agenda) (before : ControlBlock) (is : control_of s 
         ∙ (ap (λ (y : ControlBlock). record y { parts = record y.parts { signals = slice_set y.parts.signals k None } }) is
         ∙ ap (λ ss. record before { parts = record before.parts { signals = ss } }) (none_kept before.parts.signals k within (latch_of_block k None none)))
 
-    pub still_within : (d : ℕ) → d < length before.parts.contexts → d < length a'.disps
-    still_within d h = subst (λ (g : Agenda). d < length g.disps) (sym taken) (disp_within s a before d is h)
-
     pub still_there : (d : ℕ) (e : Dispatcher) → slice_get a'.disps d ≡ Some e → slice_get a.disps d ≡ Some e
     still_there d e at = ap (λ (g : Agenda). slice_get g.disps d) (sym taken) ∙ at
 

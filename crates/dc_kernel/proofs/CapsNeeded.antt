@@ -47,10 +47,6 @@ tested_free (t ∷ ts) call f = by_test t.0 (tested_free ts call f)
     by_test true g = record { nothing = refl }
     by_test false g = g
 
-faults_free : (x : ℕ) → IsFree (faults x)
-unfolding need
-faults_free x = record { nothing = refl }
-
 makes_free : (w : Option Waiting) (p : Parts) → IsFree (makes w p)
 unfolding need
 makes_free w p = record { nothing = refl }

@@ -50,12 +50,6 @@ module _ {memory : List ℕ} {code : List (List ℕ)} {ports : List (List Messag
 
   -- with other capabilities, the dispatcher may go on
 
-  pub context_within : d < length (map context_of a.disps)
-  context_within = subst (λ (y : ControlBlock). d < length y.parts.contexts) (sym h.seen) (running_within x d h.run)
-
-  pub places_within : Each (map context_of a.disps) (λ d (c : Context). c.place ≤ 65535)
-  places_within = subst (λ (y : ControlBlock). Each y.parts.contexts (λ d (c : Context). c.place ≤ 65535)) (sym h.seen) (running_places x d h.run)
-
   -- a call on the table faults, and leaves it
 
   pub refused : (t' : Caps) → t' ≡ t → (y z : ℕ) → y ≡ z → (call : Parts → Call) → ((p : Parts) → p.caps ≡ t.set → length p.code ≡ t.disps → call p ≡ faults z) → (v : Context) (c n : ℕ) (out : Outside) → Serves c n (call (with_next_place d v x.parts)) x (block memory code ports t' a) out out (answer.Fault y)

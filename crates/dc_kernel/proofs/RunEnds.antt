@@ -69,13 +69,6 @@ named_by i (Some p) q b h = (p, q)
 pub call_named : (i : Instr) → IsTrue (is_proper_call i) → (p : Op) × (call_name i ≡ Some p)
 call_named i h = named_by i (call_name i) refl _ h
 
--- the need of a slice that ends before a call
-pub need_at : (time d : ℕ) (x : ControlBlock) (a : plain.Ahead) (m : Need) (i : Instr) (o : Op) → call_name i ≡ Some o → end_at (call_name i) i ≡ a.end → m ≡ need (call_of time d a.context i (with_ahead x d a).parts) → m ≡ need_of (after_ahead time x d a a.end)
-need_at time d x a m i o named is e = subst (λ f. m ≡ need_of (after_ahead time x d a f)) (sym (ap (λ p. end_at p i) named) ∙ is) e
-
-pub no_need : (time d : ℕ) (x : ControlBlock) (a : plain.Ahead) (e : AheadEnd) → e ≡ a.end → needs.Nothing ≡ need_of (after_ahead time x d a e) → needs.Nothing ≡ need_of (after_ahead time x d a a.end)
-no_need time d x a e is h = subst (λ f. needs.Nothing ≡ need_of (after_ahead time x d a f)) is h
-
 -- what was set at a place that there is, is there
 pub set_there : {A : Type 0} (xs : List A) (i : ℕ) (y z : A) → slice_get (slice_set xs i y) i ≡ Some z → slice_get (slice_set xs i y) i ≡ Some y
 set_there xs i y z e = set_here xs i _ y (slice_get-get_or xs i y (subst (λ n. i < n) (length-set xs i y) (slice_get_within _ _ _ e)))

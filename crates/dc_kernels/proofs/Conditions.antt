@@ -16,11 +16,6 @@ use Rattle.dc_kernel.specs.Running.{Running, IsTimely}
 pub first_boots : (i : Image) (x : BlockImage) → IsValid i → slice_get i.blocks 0 ≡ Some x → BootsIn x
 first_boots i x valid q = (i, 0, valid.blocks 0 x q)
 
-pub all_low : (disps : List Dispatcher) → list_all (λ (d : Dispatcher). nat_lt d.due 4611686018427387904) disps ≡ true → Each (map due_of disps) (λ i due. due < 2 ^ 63)
-all_low [] h i x q = absurd cc
-all_low (d ∷ ds) h zero x q = let parts = and_parts (nat_lt d.due 4611686018427387904) (list_all (λ (e : Dispatcher). nat_lt e.due 4611686018427387904) ds) h in let same : d.due ≡ x = cc in let low = ltb-true d.due 4611686018427387904 parts.0 in omega (arith, same, low)
-all_low (d ∷ ds) h (suc i) x q = let parts = and_parts (nat_lt d.due 4611686018427387904) (list_all (λ (e : Dispatcher). nat_lt e.due 4611686018427387904) ds) h in all_low ds parts.1 i x q
-
 pub timely : (r : Running) (kept now clock : ℕ) → r.offset ≡ pos kept -ℤ pos now → kept < 4611686018427387904 → clock < 4611686018427387904 → now ≤ clock → IsTimely clock r
 timely r kept now clock e k a l =
     let f : pos clock +ℤ (pos kept -ℤ pos now) ≡ pos (kept + (clock - now)) = omega (arith, ints, l) in

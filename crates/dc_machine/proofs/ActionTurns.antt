@@ -34,13 +34,3 @@ core_leaves s new c action.Raise p r h q = quiet_other action.Raise r s new p (c
 
 pub raise_leaves : (s new : State) (p : ℕ) (r : Stepped) → Answers r s new (core_step s p actor.Script action.Raise) → IsQuiet r → p ≡ polls_then action.Raise p (core_step s p actor.Script action.Raise)
 raise_leaves s new p r h q = quiet_other action.Raise r s new p (core_step s p actor.Script action.Raise) (λ n. refl) h q
-
--- what an action of the machine names is there
-pub core_there : (s : State) (n : ℕ) → IsSound s → n < s.script.settings.cores → n < length s.cores
-core_there s n h e = subst (λ k. n < k) (sym h.settled.cores) e
-
-pub line_there : (s : State) (n : ℕ) → IsSound s → n < s.script.settings.lines → n < length s.lines
-line_there s n h e = subst (λ k. n < k) (sym h.settled.lines) e
-
-pub block_there : (s : State) (n : ℕ) → IsSound s → n < s.script.settings.blocks → n < length s.blocks
-block_there s n h e = subst (λ k. n < k) (sym h.settled.blocks) e

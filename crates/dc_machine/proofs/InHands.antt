@@ -70,10 +70,6 @@ module _ (s : State) (p : IsSound s) where
       let x = p.placed.only c k at b listed in
       (x.0, x.1, block_in_hand c k b x.0 at x.1 x.2)
 
-  -- a core keeps the script's settings
-  pub settings_same : (c : ℕ) (k : Core) → slice_get s.cores c ≡ Some k → k.settings ≡ s.script.settings
-  settings_same c k at = p.settled.same c k at
-
   -- its quantum is one
   pub quantum_is : (c : ℕ) (k : Core) → slice_get s.cores c ≡ Some k → IsQuantum k.settings.quantum
   quantum_is c k at = subst (λ t. IsQuantum t.quantum) (sym (p.settled.same c k at)) p.settled.limits.quantum

@@ -21,21 +21,6 @@ use Rattle.dc_objects.specs.Mailboxes.{is_ack}
 use Rattle.dc_machine.specs.declared.turns.Stepped.{Stepped}
 use Rattle.dc_machine.specs.Answers.{Answers}
 
-few_by : (o : Option ℕ) (b : Order) (c : ℕ × Order) → length (option_map_or (λ d. (d, b) ∷ []) o [] ++ c ∷ []) ≤ 2
-few_by None b c = omega arith
-few_by (Some d) b c = omega arith
-
--- a command has at most two orders
-pub orders_most : (r : Registry) (c : Command) → length (orders r c) ≤ 2
-unfolding orders
-orders_most r (command.Start c v) = omega arith
-orders_most r (command.Stop c) = omega arith
-orders_most r (command.Replace c v) = omega arith
-orders_most r (command.Attach b c) = omega arith
-orders_most r (command.Move b c) = few_by (core_of r b.0) _ _
-orders_most r (command.Park b c) = few_by (core_of r b.0) _ _
-orders_most r (command.Unpark b c) = few_by (core_of r b.0) _ _
-
 module _ (s : State) (c : Command) (h : IsSound s) (e : slice_get s.script.lines s.script.place ≡ Some (line.Boot c)) where
   command_is : command_at s.script ≡ Some c
   command_is = ap (λ o. bind o boot_command) e
@@ -43,12 +28,6 @@ module _ (s : State) (c : Command) (h : IsSound s) (e : slice_get s.script.lines
   -- a begun command has no refusal
   pub accepted : 0 < s.script.posts → refusal s.script.registry c ≡ None
   accepted k = h.registered.accepted c k command_is
-
-  pub posts_within : s.script.posts ≤ length (orders s.script.registry c)
-  posts_within = subst (λ o. s.script.posts ≤ length (option_map_or (orders s.script.registry) o [])) command_is h.in_form.posts.posted
-
-  pub posts_most : s.script.posts ≤ 2
-  posts_most = let a = posts_within in let b = orders_most s.script.registry c in omega (arith, a, b)
 
   -- a command that is refused was not begun
   pub not_begun : (r : Refusal) → refusal s.script.registry c ≡ Some r → s.script.posts ≡ 0
@@ -62,26 +41,9 @@ module _ (s : State) (c : Command) where
   pub refused_turn : (r : Refusal) → refusal s.script.registry c ≡ Some r → s.script.posts ≡ 0 → outcome s (boot_turn s.script c s.script.posts) ≡ outcome s (begin s.script c (Some r))
   refused_turn r e z = ap (λ n. outcome s (boot_turn s.script c n)) z ∙ ap (λ o. outcome s (begin s.script c o)) e
 
-  pub first_turn : (o : ℕ × Order) → refusal s.script.registry c ≡ None → s.script.posts ≡ 0 → slice_get (orders s.script.registry c) 0 ≡ Some o →
-      outcome s (boot_turn s.script c s.script.posts) ≡ outcome s (post s.script [] o)
-  first_turn o e z f = ap (λ n. outcome s (boot_turn s.script c n)) z ∙ ap (λ q. outcome s (begin s.script c q)) e ∙ ap (λ q. outcome s (post_or_done s.script c [] q)) f
-
   later_by : (n : ℕ) → 0 < n → outcome s (boot_turn s.script c n) ≡ outcome s (go_on_from s.script c (slice_get (orders s.script.registry c) (n - 1)))
   later_by zero k = absurd (omega (arith, k))
   later_by (suc n) k = ap (λ m. outcome s (go_on_from s.script c (slice_get (orders s.script.registry c) m))) (omega arith)
-
-  pub no_order : 0 < s.script.posts → slice_get (orders s.script.registry c) (s.script.posts - 1) ≡ None → outcome s (boot_turn s.script c s.script.posts) ≡ not_enabled reason.ScriptEnded
-  no_order k e = later_by s.script.posts k ∙ ap (λ o. outcome s (go_on_from s.script c o)) e
-
-  waits_for : (o : ℕ × Order) (m : Option Mailbox) → option_map_or is_ack m false ≡ false → outcome s (with_ack s.script c o.0 m) ≡ not_enabled (reason.NoAck (record { 0 = o.0 }))
-  waits_for o None e = refl
-  waits_for o (Some empty) e = refl
-  waits_for o (Some (ordered q)) e = refl
-  waits_for o (Some ack) e = absurd cc
-
-  pub no_ack : (o : ℕ × Order) → 0 < s.script.posts → slice_get (orders s.script.registry c) (s.script.posts - 1) ≡ Some o → option_map_or is_ack (slice_get s.mailboxes o.0) false ≡ false →
-      outcome s (boot_turn s.script c s.script.posts) ≡ not_enabled (reason.NoAck (record { 0 = o.0 }))
-  no_ack o k e f = later_by s.script.posts k ∙ ap (λ q. outcome s (go_on_from s.script c q)) e ∙ waits_for o (slice_get s.mailboxes o.0) f
 
   has_acked : (o : ℕ × Order) (m : Option Mailbox) → option_map_or is_ack m false ≡ true →
       outcome s (with_ack s.script c o.0 m) ≡ outcome s (post_or_done s.script c (mailbox_becomes o.0 empty ∷ []) (slice_get (orders s.script.registry c) s.script.posts))
@@ -93,15 +55,3 @@ module _ (s : State) (c : Command) where
   pub acked : (o : ℕ × Order) → 0 < s.script.posts → slice_get (orders s.script.registry c) (s.script.posts - 1) ≡ Some o → option_map_or is_ack (slice_get s.mailboxes o.0) false ≡ true →
       outcome s (boot_turn s.script c s.script.posts) ≡ outcome s (post_or_done s.script c (mailbox_becomes o.0 empty ∷ []) (slice_get (orders s.script.registry c) s.script.posts))
   acked o k e f = later_by s.script.posts k ∙ ap (λ q. outcome s (go_on_from s.script c q)) e ∙ has_acked o (slice_get s.mailboxes o.0) f
-
-  -- the state with this mailbox emptied
-  abbrev pub emptied : ℕ → State
-  emptied o = record s { mailboxes = slice_set s.mailboxes o empty }
-
-  pub posts_after : (o : ℕ) (q : ℕ × Order) (r : Stepped) (new : State) → Answers r (emptied o) new (outcome (emptied o) (post s.script [] q)) →
-      Answers r s new (outcome s (post_or_done s.script c (mailbox_becomes o empty ∷ []) (Some q)))
-  posts_after o q r new a = a
-
-  pub done_after : (o : ℕ) (r : Stepped) (new : State) → Answers r (emptied o) new (outcome (emptied o) (post_or_done s.script c [] None)) →
-      Answers r s new (outcome s (post_or_done s.script c (mailbox_becomes o empty ∷ []) None))
-  done_after o r new a = a

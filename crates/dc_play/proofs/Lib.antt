@@ -1,10 +1,11 @@
+pub mod Actions
 pub mod Adding
+pub mod Counted
 pub mod PlayTexts
 pub mod Playing
 pub mod ReportTexts
 pub mod Rises
 pub mod RunTexts
-pub mod Sizes
 pub mod Starting
 pub mod Steps
 pub mod Summing

@@ -9,7 +9,7 @@ use Rattle.dc_base.specs.PlayText.{played_text, play_text}
 use Rattle.dc_base.specs.States.{State, Settings, core_start, settings_of}
 use Rattle.dc_base.specs.Valid.{IsValidSchedule}
 
-start_settings : (image : Image) (script : List ScriptLine) → (core_start image script).script.settings ≡ settings_of image
+pub start_settings : (image : Image) (script : List ScriptLine) → (core_start image script).script.settings ≡ settings_of image
 unfolding core_start
 start_settings image script = refl
 

@@ -2,9 +2,7 @@
 use Rattle.std.proofs.Common.{◌≡◌, ◌∙◌, ℕ, ◌+◌, ◌<◌, List, Bool, true, false, Option, Some, Result, Ok, Err, refl, sym, ap, subst, length}
 use Rattle.std.specs.Prelude.{IsTrue, slice_get}
 use Rattle.dc_base.specs.declared.actions.Actor.{Actor}
-use Rattle.dc_base.specs.declared.actions.Actor.TheVariants as actor
 use Rattle.dc_base.specs.declared.actions.Action.{Action}
-use Rattle.dc_base.specs.declared.actions.Action.TheVariants as action
 use Rattle.dc_base.specs.declared.entries.Entry.{Entry}
 use Rattle.dc_base.specs.EntryText.{journal_text}
 use Rattle.dc_base.specs.CoreRuns.{core_run_from}
@@ -14,7 +12,6 @@ use Rattle.dc_base.specs.Sound.{IsSound}
 use Rattle.dc_base.specs.Turns.{Outcome, did, not_enabled, spent}
 use Rattle.dc_base.specs.Changes.{apply}
 use Rattle.dc_base.specs.Cores.{core_step}
-use Rattle.dc_base.specs.Valid.{IsActionOf}
 use Rattle.dc_io.specs.declared.sinks.Failed.{Failed}
 use Rattle.dc_io.specs.Told.{AddsPrefix}
 use Rattle.dc_machine.specs.Answers.{Answers, polls_then}
@@ -22,9 +19,9 @@ use Rattle.dc_machine.specs.declared.turns.Stepped.{Stepped}
 use Rattle.dc_machine.specs.declared.turns.Stepped.TheVariants as stepped
 use Rattle.dc_ranges.proofs.RunEntries.{KeepsSound}
 use Rattle.dc_ranges.proofs.Shown.{Shows}
-use Rattle.dc_sound.proofs.Lengths.{same_lengths}
 use Rattle.dc_play.specs.Played.{PlaysTo, IsSized}
 use Rattle.dc_play.specs.Playing.{IsPlaying}
+use Rattle.dc_play.proofs.Actions.{sized_after}
 use Rattle.dc_play.proofs.Playing.{makes, is_not_enabled, is_spent, fails}
 
 module _ (old new : State) where
@@ -45,30 +42,9 @@ module _ (old new : State) where
 
     -- no action makes or removes an object
     pub stays_sized : (t : Settings) → IsSized t old → IsSound old → IsSound new → (o : Outcome) → PlaysTo old new ticket before after result o → IsSized t new
-    stays_sized t z p q (did changes e) g =
-        let n = same_lengths changes old in
-        record {
-          cores = sym q.settled.cores ∙ ap (λ (s : State). length s.cores) g.0 ∙ n.cores ∙ p.settled.cores ∙ z.cores;
-          blocks = sym q.settled.blocks ∙ ap (λ (s : State). length s.blocks) g.0 ∙ n.blocks ∙ p.settled.blocks ∙ z.blocks;
-          lines = sym q.settled.lines ∙ ap (λ (s : State). length s.lines) g.0 ∙ n.lines ∙ p.settled.lines ∙ z.lines;
-        }
+    stays_sized t z p q (did changes e) g = subst (λ (s : State). IsSized t s) (sym g.0) (sized_after t old changes z p (subst IsSound g.0 q))
     stays_sized t z p q (not_enabled why) g = subst (λ (s : State). IsSized t s) (sym g.0) z
     stays_sized t z p q spent g = subst (λ (s : State). IsSized t s) (sym g.0) z
-
--- an action of the machine's settings is one of each state of its run
-pub action_of_state : (t : Settings) (s : State) → IsSized t s → (who : Actor) (a : Action) → IsActionOf t who a → IsActionOf s.script.settings who a
-action_of_state t s z (actor.Core c) action.Script h = absurd h
-action_of_state t s z (actor.Core c) action.Raise h = absurd h
-action_of_state t s z (actor.Core c) action.Step h = (subst (λ n. c.0 < n) (sym z.cores) h.0, tt)
-action_of_state t s z (actor.Core c) action.Order h = (subst (λ n. c.0 < n) (sym z.cores) h.0, tt)
-action_of_state t s z (actor.Core c) (action.Intake l) h = (subst (λ n. c.0 < n) (sym z.cores) h.0, subst (λ n. l.0 < n) (sym z.lines) h.1)
-action_of_state t s z (actor.Core c) (action.Wake b d) h = (subst (λ n. c.0 < n) (sym z.cores) h.0, (subst (λ n. b.0 < n) (sym z.blocks) h.1.0, h.1.1))
-action_of_state t s z actor.Script action.Script h = tt
-action_of_state t s z actor.Script action.Raise h = tt
-action_of_state t s z actor.Script action.Step h = absurd h
-action_of_state t s z actor.Script action.Order h = absurd h
-action_of_state t s z actor.Script (action.Intake l) h = absurd h
-action_of_state t s z actor.Script (action.Wake b d) h = absurd h
 
 module _ (start : State) (schedule : List (Actor × Action)) (i : ℕ) (told now : Option (List ℕ)) (state : State) (polls entries skipped : ℕ) (p : IsPlaying start schedule i told now state polls entries skipped)
     (a : Actor × Action) (there : slice_get schedule i ≡ Some a) (after : State) (then : ℕ) (later : Option (List ℕ)) where

@@ -11,10 +11,7 @@ use Rattle.dc_base.specs.States.{State, core_start, settings_of}
 use Rattle.dc_base.specs.Valid.{IsValidSchedule}
 use Rattle.dc_play.specs.declared.counting.Counts.{Counts}
 use Rattle.dc_play.specs.Summaries.{IsSummaryOf}
-
-start_settings : (image : Image) (script : List ScriptLine) → (core_start image script).script.settings ≡ settings_of image
-unfolding core_start
-start_settings image script = refl
+use Rattle.dc_play.proofs.Starting.{start_settings}
 
 -- a schedule for the image is one for its start
 pub start_valid : (image : Image) (script : List ScriptLine) (schedule given : List (Actor × Action)) (start : State) → start ≡ core_start image script → given ≡ schedule → IsValidSchedule (settings_of image) schedule →

@@ -10,14 +10,7 @@ use Rattle.dc_play.specs.Telling.{IsTelling}
 use Rattle.dc_play.proofs.Adding.{adds_more, adds_none, prefix_more}
 use Rattle.dc_play.proofs.ReportTexts.{lines_text-append}
 
-pub telling_begins : (lines left : List ReportLine) (told : Option (List ℕ)) → left ≡ lines → IsTelling lines left told told
-telling_begins lines left told h = record { done = []; whole = sym h; text = adds_none told told refl }
-
 module _ (lines left : List ReportLine) (told now : Option (List ℕ)) (p : IsTelling lines left told now) where
-  pub all_told : left ≡ [] → Adds told now (lines_text lines)
-  all_told h =
-      let whole : lines ≡ p.done = p.whole ∙ ap (λ (ls : List ReportLine). p.done ++ ls) h ∙ append-nil p.done in
-      subst (λ (ls : List ReportLine). Adds told now (lines_text ls)) (sym whole) p.text
 
   module _ (line : ReportLine) (more : List ReportLine) (next : left ≡ line ∷ more) (later : Option (List ℕ)) where
     pub tells_on : Adds now later (ended (report_line_text line)) → IsTelling lines more told later

@@ -1,22 +1,17 @@
 -- A schedule that is played without its text, so far.
-use Rattle.std.specs.Prelude.{◌≡◌, ◌≤◌, ℕ, List, None, length}
+use Rattle.std.specs.Prelude.{◌≤◌, ℕ, List, None}
 use Rattle.dc_base.specs.declared.actions.Actor.{Actor}
 use Rattle.dc_base.specs.declared.actions.Action.{Action}
 use Rattle.dc_base.specs.Sound.{IsSound}
 use Rattle.dc_base.specs.States.{State}
+use Rattle.dc_play.specs.Played.{IsSized}
 use Rattle.dc_play.specs.Playing.{IsPlaying}
-
--- as many cores, blocks and lines as at the start
-pub record HasSizesOf (start state : State) : Type 0 where
-  pub cores : length state.cores ≡ length start.cores
-  pub blocks : length state.blocks ≡ length start.blocks
-  pub lines : length state.lines ≡ length start.lines
 
 -- so far: the actions before this one were made and counted, and the state is sound
 pub record IsCounting (start : State) (schedule : List (Actor × Action)) (i : ℕ) (state : State) (polls entries skipped : ℕ) : Type 0 where
   pub playing : IsPlaying start schedule i None None state polls entries skipped
   pub sound : IsSound state
-  pub sizes : HasSizesOf start state
+  pub sized : IsSized start.script.settings state
   pub polls_few : polls ≤ 1000000000
   pub entries_few : entries ≤ i
   pub skipped_few : skipped ≤ i

@@ -12,6 +12,6 @@ mod totals;
 mod writing;
 
 pub use lines::{count_line, word_line};
-pub use plays::play;
+pub use plays::{play, play_on, play_out};
 pub use summaries::{Summary, play_summary};
 pub use writing::{put_line, put_text};

@@ -1,6 +1,6 @@
 //! The text of a play.
 
-ghost use Rattle.std.specs.Prelude.{◌≡◌, ◌≤◌, true, OnErr};
+ghost use Rattle.std.specs.Prelude.{◌≡◌, ◌≢◌, ◌≤◌, true, Err, OnErr};
 ghost use Rattle.dc_base.specs.declared.kernels.Version.TheVariants.{Rr, Edf};
 ghost use Rattle.dc_base.specs.CoreRuns.{core_run_from};
 ghost use Rattle.dc_base.specs.PlayText.{played_text, play_text};
@@ -8,10 +8,12 @@ ghost use Rattle.dc_base.specs.Sound.{IsSound};
 ghost use Rattle.dc_base.specs.States.{settings_of};
 ghost use Rattle.dc_base.specs.Valid.{IsValid, IsValidScript, IsValidSchedule};
 ghost use Rattle.dc_io.specs.Counts.{Rose};
+ghost use Rattle.dc_io.specs.declared.sinks.Ended.TheVariants as ended;
 ghost use Rattle.dc_objects.specs.States.{state_of};
 ghost use Rattle.dc_play.specs.Plays.{Plays};
 ghost use Rattle.dc_play.specs.Written.{Writes};
 
+use crate::counting::count_actions;
 use crate::ends::write_end;
 use crate::reporting::write_report;
 use crate::schedules::play_schedule;
@@ -42,6 +44,39 @@ fn write_run<D: Driver, S: Sink>(
     write_end(skipped, sink)
 }
 
+/// Plays a schedule on objects of a sound state, as an opening is, and writes the journal and the report, one line a piece. It takes no memory.
+pub fn play_on<D: Driver, S: Sink>(
+    objects: Objects<D>,
+    schedule: &Schedule,
+    sink: &mut S,
+) -> Result<(), Ended>
+    requires sound { IsSound (state_of objects) }
+    requires schedule { IsValidSchedule (state_of objects).script.settings schedule.now }
+    requires first { D.served Rr ≡ true }
+    requires second { D.served Edf ≡ true }
+    ensures plays { Plays (S.faults sink.old) (S.faults sink.new) (S.told sink.old) (S.told sink.new) (played_text (core_run_from (state_of objects) schedule.now)) result }
+    ensures memory { result ≢ Err ended.Memory }
+    ensures grows { S.faults sink.old ≤ S.faults sink.new }
+{
+    let mut objects = objects;
+    match write_run(&mut objects, schedule, sink) {
+        Ok(()) => Ok(()),
+        Err(_) => Err(Ended::Sink),
+    }
+}
+
+/// Plays a schedule and writes nothing. The objects are then those of the run's last state.
+pub fn play_out<D: Driver>(objects: &mut Objects<D>, schedule: &Schedule)
+    requires sound { IsSound (state_of objects.old) }
+    requires schedule { IsValidSchedule (state_of objects.old).script.settings schedule.now }
+    requires first { D.served Rr ≡ true }
+    requires second { D.served Edf ≡ true }
+    ensures state { state_of objects.new ≡ (core_run_from (state_of objects.old) schedule.now).state }
+    ensures sound { IsSound (state_of objects.new) }
+{
+    count_actions(objects, schedule.as_slice());
+}
+
 /// Plays a schedule on the machine of an image and a script from its start, and writes the journal and the report, one line a piece. Memory is taken before the first line
 /// alone.
 pub fn play<D: Driver, S: Sink>(
@@ -63,9 +98,5 @@ pub fn play<D: Driver, S: Sink>(
     let Ok(machine) = objects::<D>(alloc, image, script) else {
         return Err(Ended::Memory);
     };
-    let mut machine = machine;
-    match write_run(&mut machine, schedule, sink) {
-        Ok(()) => Ok(()),
-        Err(_) => Err(Ended::Sink),
-    }
+    play_on(machine, schedule, sink)
 }

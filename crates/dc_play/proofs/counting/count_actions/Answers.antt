@@ -3,14 +3,15 @@ use Rattle.dc_base.specs.CoreRuns.{Run}
 use Rattle.dc_objects.specs.States.{state_of}
 use Rattle.dc_play.specs.Counting.{IsCounting}
 use Rattle.dc_play.proofs.Playing.{begins, ends}
-use Rattle.dc_play.proofs.Sizes.{acts, counted, listed, entries_then, entries_is, skipped_is}
+use Rattle.dc_play.proofs.Actions.{action_of_state}
+use Rattle.dc_play.proofs.Counted.{counted, listed, entries_then, entries_is, skipped_is}
 use Rattle.dc_play.proofs.counting.count_actions.Goals as goal
 
 pub loop-i-init : goal.loop-i-init
 loop-i-init g c = record {
   playing = begins (state_of c.args.objects.now) c.args.schedule.now None;
   sound = c.requires.sound;
-  sizes = record { cores = refl; blocks = refl; lines = refl };
+  sized = record { cores = refl; blocks = refl; lines = refl };
   polls_few = omega arith;
   entries_few = omega arith;
   skipped_few = omega arith;
@@ -18,8 +19,7 @@ loop-i-init g c = record {
 
 pub step-stepped-requires-clause-action : goal.step-stepped-requires-clause-action
 step-stepped-requires-clause-action g c κs within =
-    let p = c.loop-i.invariant in
-    acts (state_of c.args.objects.now) (state_of c.loop-i.objects) c.args.schedule.now c.loop-i.i _ c.requires.sound p.sound p.sizes c.requires.schedule (listed c.args.schedule.now c.loop-i.i _ c.loop-i-test.true)
+    action_of_state (state_of c.args.objects.now).script.settings (state_of c.loop-i.objects) c.loop-i.invariant.sized _ _ (c.requires.schedule.lines c.loop-i.i _ (listed c.args.schedule.now c.loop-i.i _ c.loop-i-test.true))
 
 pub loop-i-preserved : goal.loop-i-preserved
 loop-i-preserved g c =

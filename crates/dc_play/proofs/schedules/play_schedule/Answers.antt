@@ -11,7 +11,8 @@ use Rattle.dc_base.specs.EntryText.{journal_text}
 use Rattle.dc_io.specs.Told.{AddsPrefix}
 use Rattle.dc_objects.specs.States.{state_of}
 use Rattle.dc_play.proofs.Playing.{begins}
-use Rattle.dc_play.proofs.Steps.{action_of_state, ends_failed, goes_on_made, goes_on_passed, stays_sound, stays_sized}
+use Rattle.dc_play.proofs.Actions.{action_of_state}
+use Rattle.dc_play.proofs.Steps.{ends_failed, goes_on_made, goes_on_passed, stays_sound, stays_sized}
 use Rattle.dc_play.proofs.schedules.play_schedule.Goals.{then-made, else-made}
 use Rattle.dc_play.proofs.schedules.play_schedule.Goals as goal
 

@@ -1,56 +1,26 @@
--- The actions of a valid schedule are of the machine at each state of a run.
+-- A schedule that is played without its text goes on by an action.
 use Rattle.std.proofs.Common.{◌≡◌, ◌<◌, ◌≤◌, ℕ, ◌+◌, List, Some, None, refl, sym, ap, ◌∙◌, subst, arith, length, get_or, Bool, true, false}
 use Rattle.std.specs.Prelude.{slice_get, if◌then◌else◌}
 use Rattle.std.proofs.lemmas.Option.{slice_get-get_or}
 use Rattle.dc_base.specs.declared.actions.Actor.{Actor}
 use Rattle.dc_base.specs.declared.actions.Action.{Action}
-use Rattle.dc_base.specs.declared.actions.Action.TheVariants as action
-use Rattle.dc_base.specs.declared.actions.Actor.TheVariants as actor
 use Rattle.dc_base.specs.declared.entries.Entry.{Entry}
 use Rattle.dc_base.specs.Changes.{Change, apply}
 use Rattle.dc_base.specs.Cores.{core_step}
 use Rattle.dc_base.specs.CoreRuns.{polls_after, polls_at}
-use Rattle.dc_base.specs.Sound.{IsSound}
-use Rattle.dc_base.specs.States.{State, Settings}
+use Rattle.dc_base.specs.States.{State}
 use Rattle.dc_base.specs.TextWords.{ended}
 use Rattle.dc_base.specs.EntryText.{entry_text}
 use Rattle.dc_base.specs.Turns.{Outcome, did, not_enabled, spent}
-use Rattle.dc_base.specs.Valid.{IsActionOf, IsValidSchedule}
-use Rattle.dc_sound.proofs.Lengths.{same_lengths}
+use Rattle.dc_ranges.proofs.RunEntries.{KeepsSound}
 use Rattle.dc_machine.specs.declared.turns.Stepped.{Stepped}
 use Rattle.dc_machine.specs.declared.turns.Stepped.TheVariants as stepped
 use Rattle.dc_machine.specs.Answers.{Answers, is_did, polls_then}
 use Rattle.dc_play.specs.declared.counting.Counts.{Counts}
-use Rattle.dc_play.specs.Counting.{HasSizesOf, IsCounting}
+use Rattle.dc_play.specs.Counting.{IsCounting}
 use Rattle.dc_play.specs.Playing.{IsPlaying}
+use Rattle.dc_play.proofs.Actions.{sized_after}
 use Rattle.dc_play.proofs.Playing.{makes, is_not_enabled, is_spent, adds_untold}
-
--- an action depends on how many cores, blocks and lines there are
-pub same_actions : (t u : Settings) (who : Actor) (a : Action) → u.cores ≡ t.cores → u.blocks ≡ t.blocks → u.lines ≡ t.lines → IsActionOf t who a → IsActionOf u who a
-same_actions t u (actor.Core c) action.Step ec eb el h = (subst (λ n. c.0 < n) (sym ec) h.0, tt)
-same_actions t u (actor.Core c) action.Order ec eb el h = (subst (λ n. c.0 < n) (sym ec) h.0, tt)
-same_actions t u (actor.Core c) (action.Intake l) ec eb el h = (subst (λ n. c.0 < n) (sym ec) h.0, subst (λ n. l.0 < n) (sym el) h.1)
-same_actions t u (actor.Core c) (action.Wake b d) ec eb el h = (subst (λ n. c.0 < n) (sym ec) h.0, (subst (λ n. b.0 < n) (sym eb) h.1.0, h.1.1))
-same_actions t u (actor.Core c) action.Script ec eb el h = absurd h
-same_actions t u (actor.Core c) action.Raise ec eb el h = absurd h
-same_actions t u actor.Script action.Script ec eb el h = tt
-same_actions t u actor.Script action.Raise ec eb el h = tt
-same_actions t u actor.Script action.Step ec eb el h = absurd h
-same_actions t u actor.Script action.Order ec eb el h = absurd h
-same_actions t u actor.Script (action.Intake l) ec eb el h = absurd h
-same_actions t u actor.Script (action.Wake b d) ec eb el h = absurd h
-
--- the next action of the schedule is one of the machine
-pub acts : (start state : State) (schedule : List (Actor × Action)) (i : ℕ) (a : Actor × Action) → IsSound start → IsSound state → HasSizesOf start state → IsValidSchedule start.script.settings schedule →
-    slice_get schedule i ≡ Some a → IsActionOf state.script.settings a.0 a.1
-acts start state schedule i a h g z v e = same_actions start.script.settings state.script.settings a.0 a.1
-    (sym g.settled.cores ∙ z.cores ∙ h.settled.cores) (sym g.settled.blocks ∙ z.blocks ∙ h.settled.blocks) (sym g.settled.lines ∙ z.lines ∙ h.settled.lines) (v.lines i a e)
-
-abbrev pub KeepsSound : Type 0
-KeepsSound = (s : State) (polls : ℕ) (who : Actor) (a : Action) (changes : List Change) (e : Entry) → IsSound s → core_step s polls who a ≡ did changes e → IsSound (apply s changes)
-
-sizes_after : (start state : State) (changes : List Change) → HasSizesOf start state → HasSizesOf start (apply state changes)
-sizes_after start state changes z = let n = same_lengths changes state in record { cores = n.cores ∙ z.cores; blocks = n.blocks ∙ z.blocks; lines = n.lines ∙ z.lines }
 
 abbrev pub entries_then : Stepped → ℕ → ℕ
 entries_then r n = if is_did r then n + 1 else n
@@ -66,7 +36,7 @@ module _ (keeps : KeepsSound) (start : State) (schedule : List (Actor × Action)
         playing = subst (λ (n : ℕ). IsPlaying start schedule (i + 1) None None (apply state changes) n (entries + 1) skipped) (sym k)
             (makes start schedule i None None state polls entries skipped p.playing a there changes e None h (adds_untold (ended (entry_text entries e))));
         sound = keeps state polls a.0 a.1 changes e p.sound h;
-        sizes = sizes_after start state changes p.sizes;
+        sized = sized_after start.script.settings state changes p.sized p.sound (keeps state polls a.0 a.1 changes e p.sound h);
         polls_few = few;
         entries_few = let b = p.entries_few in omega (arith, b);
         skipped_few = let b = p.skipped_few in omega (arith, b);
@@ -75,7 +45,7 @@ module _ (keeps : KeepsSound) (start : State) (schedule : List (Actor × Action)
       (subst (λ (s : State). IsCounting start schedule (i + 1) s polls_new entries (skipped + 1)) (sym q.1) (record {
         playing = subst (λ (n : ℕ). IsPlaying start schedule (i + 1) None None state n entries (skipped + 1)) (sym k) (is_not_enabled start schedule i None None state polls entries skipped p.playing a there why h);
         sound = p.sound;
-        sizes = p.sizes;
+        sized = p.sized;
         polls_few = few;
         entries_few = let b = p.entries_few in omega (arith, b);
         skipped_few = let b = p.skipped_few in omega (arith, b);
@@ -84,7 +54,7 @@ module _ (keeps : KeepsSound) (start : State) (schedule : List (Actor × Action)
       (subst (λ (s : State). IsCounting start schedule (i + 1) s polls_new entries (skipped + 1)) (sym q.1) (record {
         playing = subst (λ (n : ℕ). IsPlaying start schedule (i + 1) None None state n entries (skipped + 1)) (sym k) (is_spent start schedule i None None state polls entries skipped p.playing a there h);
         sound = p.sound;
-        sizes = p.sizes;
+        sized = p.sized;
         polls_few = few;
         entries_few = let b = p.entries_few in omega (arith, b);
         skipped_few = let b = p.skipped_few in omega (arith, b);
