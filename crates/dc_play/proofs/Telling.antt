@@ -11,7 +11,6 @@ use Rattle.dc_play.proofs.Adding.{adds_more, adds_none, prefix_more}
 use Rattle.dc_play.proofs.ReportTexts.{lines_text-append}
 
 module _ (lines left : List ReportLine) (told now : Option (List ℕ)) (p : IsTelling lines left told now) where
-
   module _ (line : ReportLine) (more : List ReportLine) (next : left ≡ line ∷ more) (later : Option (List ℕ)) where
     pub tells_on : Adds now later (ended (report_line_text line)) → IsTelling lines more told later
     tells_on h =
