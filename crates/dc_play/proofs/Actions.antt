@@ -1,5 +1,5 @@
 -- The actions of a valid schedule are of the machine at each state of a run.
-use Rattle.std.proofs.Common.{◌≡◌, ◌<◌, ◌∙◌, List, sym, subst}
+use Rattle.std.proofs.Common.{◌<◌, ◌∙◌, List, sym, subst}
 use Rattle.dc_base.specs.declared.actions.Actor.{Actor}
 use Rattle.dc_base.specs.declared.actions.Actor.TheVariants as actor
 use Rattle.dc_base.specs.declared.actions.Action.{Action}

@@ -4,17 +4,14 @@ use Rattle.std.specs.Prelude.{slice_get, if◌then◌else◌}
 use Rattle.std.proofs.lemmas.Option.{slice_get-get_or}
 use Rattle.dc_base.specs.declared.actions.Actor.{Actor}
 use Rattle.dc_base.specs.declared.actions.Action.{Action}
-use Rattle.dc_base.specs.declared.entries.Entry.{Entry}
-use Rattle.dc_base.specs.Changes.{Change, apply}
+use Rattle.dc_base.specs.Changes.{apply}
 use Rattle.dc_base.specs.Cores.{core_step}
-use Rattle.dc_base.specs.CoreRuns.{polls_after, polls_at}
 use Rattle.dc_base.specs.States.{State}
 use Rattle.dc_base.specs.TextWords.{ended}
 use Rattle.dc_base.specs.EntryText.{entry_text}
 use Rattle.dc_base.specs.Turns.{Outcome, did, not_enabled, spent}
 use Rattle.dc_ranges.proofs.RunEntries.{KeepsSound}
 use Rattle.dc_machine.specs.declared.turns.Stepped.{Stepped}
-use Rattle.dc_machine.specs.declared.turns.Stepped.TheVariants as stepped
 use Rattle.dc_machine.specs.Answers.{Answers, is_did, polls_then}
 use Rattle.dc_play.specs.declared.counting.Counts.{Counts}
 use Rattle.dc_play.specs.Counting.{IsCounting}

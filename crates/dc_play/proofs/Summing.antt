@@ -1,5 +1,5 @@
 -- What was counted sums up the run.
-use Rattle.std.proofs.Common.{◌≡◌, ◌≤◌, ℕ, List, refl, sym, ap, ◌∙◌, subst, arith, length}
+use Rattle.std.proofs.Common.{◌≡◌, ◌≤◌, ℕ, List, sym, ap, ◌∙◌, subst, arith, length}
 use Rattle.std.specs.Prelude.{◌%◌, ◌^◌, sum, flat_map}
 use Rattle.dc_base.specs.declared.actions.Actor.{Actor}
 use Rattle.dc_base.specs.declared.actions.Action.{Action}

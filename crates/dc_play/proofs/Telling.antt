@@ -1,5 +1,5 @@
 -- A report is written line by line.
-use Rattle.std.proofs.Common.{◌≡◌, ◌∙◌, ℕ, List, [], ◌∷◌, ◌++◌, Option, refl, sym, ap, subst, append_assoc}
+use Rattle.std.proofs.Common.{◌≡◌, ◌∙◌, ℕ, List, [], ◌∷◌, ◌++◌, Option, sym, ap, subst, append_assoc}
 use Rattle.std.proofs.lemmas.List.{append-nil}
 use Rattle.dc_base.specs.declared.reports.ReportLine.{ReportLine}
 use Rattle.dc_base.specs.TextWords.{ended}
@@ -7,7 +7,7 @@ use Rattle.dc_base.specs.ReportText.{report_line_text}
 use Rattle.dc_io.specs.Told.{Adds, AddsPrefix}
 use Rattle.dc_play.specs.ReportLines.{lines_text}
 use Rattle.dc_play.specs.Telling.{IsTelling}
-use Rattle.dc_play.proofs.Adding.{adds_more, adds_none, prefix_more}
+use Rattle.dc_play.proofs.Adding.{adds_more, prefix_more}
 use Rattle.dc_play.proofs.ReportTexts.{lines_text-append}
 
 module _ (lines left : List ReportLine) (told now : Option (List ℕ)) (p : IsTelling lines left told now) where

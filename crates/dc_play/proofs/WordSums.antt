@@ -1,5 +1,5 @@
 -- Sums over the words and consoles that are left.
-use Rattle.std.proofs.Common.{◌≡◌, ◌<◌, ℕ, ◌+◌, ◌*◌, List, [], ◌∷◌, ◌++◌, Some, None, refl, sym, ap, ◌∙◌, arith, length, drop, length-append}
+use Rattle.std.proofs.Common.{◌≡◌, ◌<◌, ℕ, ◌+◌, ◌*◌, List, [], ◌∷◌, ◌++◌, Some, None, sym, ap, ◌∙◌, arith, length, drop, length-append}
 use Rattle.std.specs.Prelude.{◌%◌, ◌/◌, ◌^◌, slice_get, sum, flat_map, fold}
 use Rattle.std.proofs.Math.Nat.{mod-add-div, add-mul-mod_self_left}
 use Rattle.std.proofs.lemmas.Option.{slice_get-get_or}

@@ -1,8 +1,7 @@
-use Rattle.std.proofs.Common.{◌≡◌, ◌+◌, None, refl, ap, ◌∙◌, subst, arith, length, ℕ}
-use Rattle.dc_base.specs.CoreRuns.{Run}
+use Rattle.std.proofs.Common.{◌+◌, None, refl, subst, arith, ℕ}
 use Rattle.dc_objects.specs.States.{state_of}
 use Rattle.dc_play.specs.Counting.{IsCounting}
-use Rattle.dc_play.proofs.Playing.{begins, ends}
+use Rattle.dc_play.proofs.Playing.{begins}
 use Rattle.dc_play.proofs.Actions.{action_of_state}
 use Rattle.dc_play.proofs.Counted.{counted, listed, entries_then, entries_is, skipped_is}
 use Rattle.dc_play.proofs.counting.count_actions.Goals as goal

@@ -1,4 +1,3 @@
-use Rattle.std.proofs.Common.{sym, ap, ◌∙◌}
 use Rattle.dc_objects.specs.States.{state_of}
 use Rattle.dc_play.proofs.Summing.{start_valid, few_consoles, summed}
 use Rattle.dc_play.proofs.summaries.play_summary.Goals as goal

@@ -1,4 +1,4 @@
-use Rattle.std.proofs.Common.{◌≡◌, ◌<◌, ◌+◌, ℕ, sym, ◌∙◌, subst, drop, length}
+use Rattle.std.proofs.Common.{◌≡◌, ◌<◌, ◌+◌, ℕ, sym, ◌∙◌, subst, drop}
 use Rattle.std.specs.Prelude.{◌%◌, ◌^◌, sum}
 use Rattle.dc_play.proofs.WordSums.{word_added, not_past}
 use Rattle.dc_play.proofs.totals.with_words.Goals.{in-Some, in_default}
