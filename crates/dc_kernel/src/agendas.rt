@@ -211,6 +211,15 @@ impl<R: ReadyList, T: TimerQueue> Agenda<R, T> {
         if !self.timers.is_due(time) {
             return self.pick();
         }
+        self.pick_fired(time)
+    }
+
+    /// The same, found on a copy. It stands apart, so that the room of the copy is not cleared where no timer is due.
+    fn pick_fired(&self, time: u64) -> Option<DispNo>
+        requires named { Each self.now.timers (λ i (t : Armed). t.signal.0 < length self.now.signals) }
+        requires room { length self.now.timers ≤ 64 }
+        ensures { (st : Store) → let x = (fire_all time (control_of st self.now)).control in option_map (λ (d : Disp). d.0) result ≡ pick R.policy x.dues x.ready }
+    {
         let mut other = self.copy();
         other.fire(time);
         other.pick()

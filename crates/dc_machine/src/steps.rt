@@ -118,8 +118,10 @@ pub(crate) fn next_of<D: Driver, B: Blocks<D>>(core: &CoreState, blocks: &B) -> 
 {
     if let Some(b) = first_runnable(core, blocks) {
         if let Some(block) = blocks.block(b) {
-            let forward = block.forward(core.clock(), core.settings().quantum());
-            return Next::Slice { block: b, forward };
+            return Next::Slice {
+                block: b,
+                forward: block.forward(core.clock(), core.settings().quantum()),
+            };
         }
     }
     match next_due(core, blocks) {
@@ -194,9 +196,9 @@ pub(crate) fn step_turn<D: Driver>(objects: &mut Objects<D>, c: CoreNo) -> Stepp
     if let Some(stop) = stopped(core) {
         return stop;
     }
-    match next_of(core, objects) {
+    match &next_of(core, objects) {
         Next::Nothing => Stepped::NotEnabled(Reason::Nothing),
-        Next::Idle(clock) => idle(objects, c, clock),
-        Next::Slice { block, forward } => slice(objects, c, block, &forward),
+        Next::Idle(clock) => idle(objects, c, *clock),
+        Next::Slice { block, forward } => slice(objects, c, *block, forward),
     }
 }

@@ -11,8 +11,8 @@ use Rattle.dc_machine.proofs.Firsts.{first_is, hand_of, hand_has, no_number_foun
 use Rattle.dc_machine.proofs.steps.next_of.Goals.{in-Some+in_default-block, in_default}
 use Rattle.dc_machine.proofs.steps.next_of.Goals as goal
 
-pub forward-forward-requires-clause-timed : goal.forward-forward-requires-clause-timed
-forward-forward-requires-clause-timed g c κs within =
+pub forward-requires-clause-timed : goal.forward-requires-clause-timed
+forward-requires-clause-timed g c κs within =
     let k : Core = c.args.core.now in
     let seen : ℕ → Option Block = g.B.Blocks.seen c.args.blocks.now in
     let f = first_is c.requires.hand.0 k seen c.requires.hand.1 c.first_runnable.result c.in-Some.b c.in-Some.is c.first_runnable.ensures in
@@ -30,7 +30,7 @@ returns-in-Some-block g c =
     let q : c.quantum.result ≡ k.settings.quantum = c.quantum.ensures ∙ ap (λ (t : Settings). t.quantum) c.settings.ensures in (
       x,
       f.1 ∙ ap (λ (o : Option Block). Some (record { number = c.in-Some.b.0; found = o })) there,
-      subst (λ n. IsForward k.settings.quantum n (running_of x) c.forward-forward.result) c.clock.ensures (subst (λ q. IsForward q c.clock.result (running_of x) c.forward-forward.result) q c.forward-forward.ensures),
+      subst (λ n. IsForward k.settings.quantum n (running_of x) c.forward.result) c.clock.ensures (subst (λ q. IsForward q c.clock.result (running_of x) c.forward.result) q c.forward.ensures),
     )
 
 pub returns-in-Some-next_due : goal.returns-in-Some-next_due
