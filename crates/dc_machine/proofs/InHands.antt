@@ -78,6 +78,6 @@ module _ (s : State) (p : IsSound s) where
   pub budget_left : (c : ℕ) (k : Core) → slice_get s.cores c ≡ Some k → (k.used == k.settings.slices) ≡ false → k.used < k.settings.slices
   budget_left c k at h = let most = p.counted.used c k at in grind (arith, nat_tests)
 
-  -- its clock and so much more have 64 bits
-  pub clock_small : (c : ℕ) (k : Core) (n : ℕ) → slice_get s.cores c ≡ Some k → n < 2 ^ 32 → k.clock + n < 2 ^ 64
-  clock_small c k n at far = let low = p.clocked.clocks c k at in let most = budget_most in omega (arith, low, most, far)
+  -- its clock is far from the largest
+  pub clock_low : (c : ℕ) (k : Core) → slice_get s.cores c ≡ Some k → k.clock < 2 ^ 63
+  clock_low c k at = let low = p.clocked.clocks c k at in let most = budget_most in omega (arith, low, most)

@@ -1,28 +1,17 @@
 -- What a core's intake comes to.
-use Rattle.std.proofs.Common.{◌≡◌, ℕ, ◌<◌, Bool, true, false, Option, Some, None, IsSome, refl, sym, ap, ◌∙◌, subst, length}
-use Rattle.std.specs.Prelude.{slice_get, slice_set, is_some, if◌then◌else◌, IfSome}
+use Rattle.std.proofs.Common.{◌≡◌, ℕ, ◌<◌, Bool, true, false, Option, Some, None, refl, ap, ◌∙◌, subst, length}
+use Rattle.std.specs.Prelude.{slice_get, is_some, if◌then◌else◌, IfSome}
 use Rattle.std.specs.Option.{option_map}
-use Rattle.dc_base.specs.declared.actions.Actor.TheVariants as actor
 use Rattle.dc_base.specs.declared.entries.Reason.TheVariants as reason
-use Rattle.dc_base.specs.declared.entries.What.TheVariants as what
-use Rattle.dc_base.specs.declared.interrupts.Latched.{Latched}
 use Rattle.dc_base.specs.declared.kernels.Version.{Version}
-use Rattle.dc_base.specs.declared.numbers.BlockNo.{BlockNo}
-use Rattle.dc_base.specs.declared.numbers.CoreNo.{CoreNo}
-use Rattle.dc_base.specs.declared.numbers.LineNo.{LineNo}
-use Rattle.dc_base.specs.declared.numbers.SignalNo.{SignalNo}
-use Rattle.dc_base.specs.Firing.{latch_in}
 use Rattle.dc_base.specs.Intakes.{intake_line, intake_outcome, intake_pending, intake_turn}
-use Rattle.dc_base.specs.Lines.{Wire, line_latch, wire_after_intake}
+use Rattle.dc_base.specs.Lines.{Wire}
 use Rattle.dc_base.specs.Outcomes.{has, if_here, if_on}
-use Rattle.dc_base.specs.Ports.{how_latched, latch_at}
 use Rattle.dc_base.specs.Sound.{IsSound}
-use Rattle.dc_base.specs.States.{State, Core, Block, with_control}
+use Rattle.dc_base.specs.States.{State, Core, Block}
 use Rattle.dc_base.specs.Turns.{Turn, ends, look_block, look_line, not_enabled, outcome}
 use Rattle.dc_base.specs.Words.{is_number}
 use Rattle.dc_sound.proofs.Elements.{same_is, same_some}
-use Rattle.dc_machine.specs.declared.turns.Stepped.TheVariants as stepped
-use Rattle.dc_machine.specs.Answers.{Answers}
 
 off_by : (s : State) (v : Option Version) (t : Turn) → is_some v ≡ false → outcome s (if_on v t) ≡ not_enabled reason.CoreOff
 off_by s None t e = refl
@@ -58,18 +47,3 @@ signal_there s l b i w x h e f g = let a = subst (λ o. IfSome o (λ (to : ℕ �
 
 pub line_is : (s : State) (l : ℕ) (w v : Wire) → slice_get s.lines l ≡ Some w → slice_get s.lines l ≡ Some v → w ≡ v
 line_is s l w v e f = same_some (slice_get s.lines l) w v e f
-
-pub is_there : {A : Type 0} {o : Option A} {x : A} → o ≡ Some x → IsSome o
-is_there e = subst (λ o. IsSome o) (sym e) refl
-
--- the raise was taken in
-pub taken_in : (s : State) (c : CoreNo) (l : LineNo) (w v : Wire) (n : ℕ) (b : BlockNo) (i : SignalNo) (x y : Block) (h : Latched) → slice_get s.blocks b.0 ≡ Some x →
-    h ≡ how_latched (latch_at x.control.parts.signals i.0) → y ≡ with_control (latch_in i.0 (line_latch l.0 n) x.control) x → v ≡ wire_after_intake h w →
-    Answers (stepped.Did (record { actor = actor.Core c; what = what.Intake l n b i h })) s (record s { blocks = slice_set s.blocks b.0 y; lines = slice_set s.lines l.0 v })
-    (intake_outcome c.0 l.0 w n b.0 i.0 (slice_get s.blocks b.0))
-taken_in s c l w v n b i x y h e a f g = subst (λ o. Answers (stepped.Did (record { actor = actor.Core c; what = what.Intake l n b i h })) s (record s { blocks = slice_set s.blocks b.0 y; lines = slice_set s.lines l.0 v })
-    (intake_outcome c.0 l.0 w n b.0 i.0 o)) (sym e) (
-      ap (λ (q : Latched). stepped.Did (record { actor = actor.Core c; what = what.Intake l n b i q })) a,
-      ap (λ (q : Block). record s { blocks = slice_set s.blocks b.0 q; lines = slice_set s.lines l.0 v }) f
-          ∙ ap (λ (q : Wire). record s { blocks = slice_set s.blocks b.0 (with_control (latch_in i.0 (line_latch l.0 n) x.control) x); lines = slice_set s.lines l.0 q }) (g ∙ ap (λ q. wire_after_intake q w) a),
-    )

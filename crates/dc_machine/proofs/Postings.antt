@@ -1,25 +1,21 @@
 -- What a boot command comes to, by its posts.
-use Rattle.std.proofs.Common.{◌≡◌, ℕ, zero, suc, ◌<◌, ◌≤◌, ◌-◌, [], ◌∷◌, ◌++◌, Option, Some, None, true, false, refl, ap, ◌∙◌, subst, arith, length}
-use Rattle.std.specs.Prelude.{slice_get, slice_set}
+use Rattle.std.proofs.Common.{◌≡◌, ℕ, zero, suc, ◌<◌, ◌-◌, [], ◌∷◌, Option, Some, None, true, false, refl, ap, ◌∙◌, arith}
+use Rattle.std.specs.Prelude.{slice_get}
 use Rattle.std.specs.Option.{option_map_or}
 use Rattle.dc_base.specs.declared.commands.Command.{Command}
-use Rattle.dc_base.specs.declared.commands.Command.TheVariants as command
 use Rattle.dc_base.specs.declared.commands.Order.{Order}
 use Rattle.dc_base.specs.declared.commands.Refusal.{Refusal}
 use Rattle.dc_base.specs.declared.commands.ScriptLine.TheVariants as line
-use Rattle.dc_base.specs.declared.entries.Reason.TheVariants as reason
-use Rattle.dc_base.specs.Boot.{Registry, core_of, orders, refusal}
+use Rattle.dc_base.specs.Boot.{orders, refusal}
 use Rattle.dc_base.specs.Changes.{mailbox_becomes}
-use Rattle.dc_base.specs.Commands.{begin, boot_turn, go_on_from, post, post_or_done, with_ack}
+use Rattle.dc_base.specs.Commands.{begin, boot_turn, go_on_from, post_or_done, with_ack}
 use Rattle.dc_base.specs.Progress.{boot_command, command_at}
 use Rattle.dc_base.specs.Sound.{IsSound}
 use Rattle.dc_base.specs.States.{State, Mailbox, empty, ack}
 use Rattle.dc_base.specs.States.{order as ordered}
-use Rattle.dc_base.specs.Turns.{not_enabled, outcome}
+use Rattle.dc_base.specs.Turns.{outcome}
 use Rattle.dc_base.specs.Words.{bind}
 use Rattle.dc_objects.specs.Mailboxes.{is_ack}
-use Rattle.dc_machine.specs.declared.turns.Stepped.{Stepped}
-use Rattle.dc_machine.specs.Answers.{Answers}
 
 module _ (s : State) (c : Command) (h : IsSound s) (e : slice_get s.script.lines s.script.place ≡ Some (line.Boot c)) where
   command_is : command_at s.script ≡ Some c

@@ -6,6 +6,7 @@ use Rattle.std.proofs.lemmas.Option.{none-some, same_Some, get_or_from_slice_get
 use Rattle.dc_base.specs.declared.actions.Actor.TheVariants as actor
 use Rattle.dc_base.specs.declared.calls.Need.{Need}
 use Rattle.dc_base.specs.declared.calls.Need.TheVariants as needs
+use Rattle.dc_base.specs.declared.entries.Entry.{Entry}
 use Rattle.dc_base.specs.declared.entries.What.{What}
 use Rattle.dc_base.specs.declared.kernels.Version.{Version}
 use Rattle.dc_base.specs.declared.numbers.BlockNo.{BlockNo}
@@ -21,7 +22,7 @@ use Rattle.dc_base.specs.Slices.{Halfway, halfway, need_of, slice_of, slice_end,
 use Rattle.dc_base.specs.Sound.{IsSound}
 use Rattle.dc_base.specs.States.{State, Core, Block, Mailbox, Script, Whereabouts, rest, on, with_control}
 use Rattle.dc_base.specs.Steps.{as_console, as_channel, as_line, core_after_slice, outside_change, slice_turn}
-use Rattle.dc_base.specs.Turns.{outcome}
+use Rattle.dc_base.specs.Turns.{did, outcome}
 use Rattle.dc_base.specs.Words.{bind}
 use Rattle.dc_kernel.specs.declared.drivers.Forward.{Forward}
 use Rattle.dc_kernel.specs.declared.drivers.Sliced.{Sliced}
@@ -36,9 +37,9 @@ use Rattle.dc_kernel.proofs.SliceTurns.{slice_done}
 use Rattle.dc_objects.specs.Blocks.{running_of}
 use Rattle.dc_objects.specs.declared.whole.Objects.{Objects}
 use Rattle.dc_machine.specs.Answers.{Answers}
+use Rattle.dc_machine.specs.Held.{IsSlice}
 use Rattle.dc_machine.specs.Lifts.{KeepsRest, SameKind}
 use Rattle.dc_machine.specs.Nexts.{slice_what, what_by}
-use Rattle.dc_machine.specs.declared.turns.Stepped.{Stepped}
 use Rattle.dc_machine.specs.declared.turns.Stepped.TheVariants as stepped
 use Rattle.dc_machine.proofs.InHands.{budget_most}
 use Rattle.dc_machine.proofs.Needs.{end_kind}
@@ -105,27 +106,25 @@ no_change : (b : ℕ) (n : Need) (out : Outside) → n ≡ needs.Nothing → out
 unfolding outside_change
 no_change b n out e = subst (λ (m : Need). outside_change b m out ≡ []) (sym e) refl
 
--- the answer of a slice
+-- what a slice comes to, as a change of its objects
 
-abbrev entry_of : CoreNo → What → Stepped
-entry_of c w = stepped.Did (record { actor = actor.Core c; what = w })
-
-module _ (s new : State) (c : CoreNo) (k : Core) (b : BlockNo) (x : Block) (n : Need) (control : ControlBlock) (sl : Sliced) (out : Outside) where
+module _ (s : State) (c : CoreNo) (k : Core) (b : BlockNo) (x : Block) (n : Need) (control : ControlBlock) (sl : Sliced) (out : Outside) where
   abbrev changes : List Change
   changes = core_becomes c.0 (core_after_slice k b.0 (k.clock + sl.advance)) ∷ block_becomes b.0 (with_control control x) ∷ outside_change b.0 n out
 
-  answer_by : (o : Option DispNo) → (o ≡ None → n ≡ needs.Nothing) → new ≡ apply s changes → Answers (entry_of c (what_by b sl (k.clock + sl.advance) o)) s new (outcome_by c.0 k b.0 x n (told control sl out) (number_of o))
-  answer_by None free e = (refl, e ∙ ap (λ more. apply s (core_becomes c.0 (core_after_slice k b.0 (k.clock + sl.advance)) ∷ block_becomes b.0 (with_control control x) ∷ more)) (no_change b.0 n out (free refl)))
-  answer_by (Some d) free e = (refl, e)
+  did_by : (o : Option DispNo) → (o ≡ None → n ≡ needs.Nothing) → outcome_by c.0 k b.0 x n (told control sl out) (number_of o) ≡ did changes (record { actor = actor.Core c; what = what_by b sl (k.clock + sl.advance) o })
+  did_by None free = ap (λ more. did (core_becomes c.0 (core_after_slice k b.0 (k.clock + sl.advance)) ∷ block_becomes b.0 (with_control control x) ∷ more) (record { actor = actor.Core c; what = what_by b sl (k.clock + sl.advance) None })) (sym (no_change b.0 n out (free refl)))
+  did_by (Some d) free = refl
 
-  pub slice_answers : (r : Running) → x ≡ on_core c.0 r → n ≡ need_in (halfway_in k.settings.quantum k.clock r) → Some (told control sl out) ≡ done (look_in s b.0) k.settings.quantum c.0 b.0 k.clock r → new ≡ apply s changes →
-      Answers (entry_of c (slice_what b sl (k.clock + sl.advance))) s new (outcome s (slice_turn c.0 k b.0 (Some x)))
-  slice_answers r is need t e =
+  pub slice_did : IsOn c.0 x.whereabouts → n ≡ need_in (halfway_in k.settings.quantum k.clock (running_of x)) → Some (told control sl out) ≡ done (look_in s b.0) k.settings.quantum c.0 b.0 k.clock (running_of x) →
+      outcome s (slice_turn c.0 k b.0 (Some x)) ≡ did changes (record { actor = actor.Core c; what = slice_what b sl (k.clock + sl.advance) })
+  slice_did here need t =
+      let r : Running = running_of x in
+      let is : x ≡ on_core c.0 r = on_core_is c.0 x here in
       let free : sl.disp ≡ None → n ≡ needs.Nothing = λ h. need ∙ done_free (look_in s b.0) refl k.settings.quantum c.0 b.0 k.clock r (told control sl out) t (ap number_of h) in
-      let turn : outcome s (slice_turn c.0 k b.0 (Some x)) ≡ outcome_by c.0 k b.0 x n (told control sl out) (number_of sl.disp) =
       ap (λ (y : Block). outcome s (slice_turn c.0 k b.0 (Some y))) is ∙ (slice_done s c.0 k b.0 r ∙ (ap (λ o. done_outcome c.0 k b.0 (on_core c.0 r) (need_in (halfway_in k.settings.quantum k.clock r)) o) (sym t)
-      ∙ (ap (λ (m : Need). outcome_by c.0 k b.0 (on_core c.0 r) m (told control sl out) (number_of sl.disp)) (sym need) ∙ ap (λ (y : Block). outcome_by c.0 k b.0 y n (told control sl out) (number_of sl.disp)) (sym is)))) in
-      subst (Answers (entry_of c (slice_what b sl (k.clock + sl.advance))) s new) (sym turn) (answer_by sl.disp free e)
+      ∙ (ap (λ (m : Need). outcome_by c.0 k b.0 (on_core c.0 r) m (told control sl out) (number_of sl.disp)) (sym need) ∙ ap (λ (y : Block). outcome_by c.0 k b.0 y n (told control sl out) (number_of sl.disp)) (sym is))))
+      ∙ did_by sl.disp free
 
 -- the whole state afterwards
 
@@ -216,22 +215,38 @@ module _ (s : State) (c : ℕ) (k : Core) (b : ℕ) (n : Need) (o : Outside) (r 
   pub kind_kept : SameKind (look_in s b n) t.outside
   kind_kept = subst (λ (m : Need). SameKind (look_in s b m) t.outside) (sym need) (done_kind (look_in s b) refl k.settings.quantum c b k.clock r t looked_done)
 
--- the same, of a block and a clock that are equal
-pub did_same : (s : State) (c : ℕ) (k : Core) (b : ℕ) (o : Outside) (x y : Block) (clock : ℕ) (t : Done) → clock ≡ k.clock → y ≡ x → Some t ≡ done (λ (m : Need). o) k.settings.quantum c b clock (running_of y) → Some t ≡ done (λ (m : Need). o) k.settings.quantum c b k.clock (running_of x)
-did_same s c k b o x y clock t e f d = subst (λ (z : Block). Some t ≡ done (λ (m : Need). o) k.settings.quantum c b k.clock (running_of z)) f (subst (λ m. Some t ≡ done (λ (m : Need). o) k.settings.quantum c b m (running_of y)) e d)
-
 pub forward_same : (q : ℕ) (x y : Block) (clock now : ℕ) (f : Forward) → clock ≡ now → y ≡ x → IsForward q now (running_of x) f → IsForward q clock (running_of y) f
 forward_same q x y clock now f e g h = subst (λ (z : Block). IsForward q clock (running_of z) f) (sym g) (subst (λ n. IsForward q n (running_of x) f) (sym e) h)
 
-pub sliced : (s new : State) (c : CoreNo) (k : Core) (b : BlockNo) (x : Block) (n : Need) (control : ControlBlock) (sl : Sliced) (out : Outside) (w : What) (after : ℕ) →
-    slice_get s.blocks b.0 ≡ Some x → IsOn c.0 x.whereabouts → n ≡ need_in (halfway_in k.settings.quantum k.clock (running_of x)) → Some (told control sl out) ≡ done (look_in s b.0) k.settings.quantum c.0 b.0 k.clock (running_of x) → w ≡ slice_what b sl after → after ≡ k.clock + sl.advance →
-    IsAfter s new (slice_set s.cores c.0 (core_after_slice k b.0 after)) (slice_set s.blocks b.0 (with_control control x)) (apply s (outside_change b.0 n out)) → Answers (entry_of c w) s new (outcome s (slice_turn c.0 k b.0 (slice_get s.blocks b.0)))
-sliced s new c k b x n control sl out w after found here need t what clock a =
-    let whole : new ≡ apply s (core_becomes c.0 (core_after_slice k b.0 after) ∷ block_becomes b.0 (with_control control x) ∷ outside_change b.0 n out) = after_is s new (slice_set s.cores c.0 (core_after_slice k b.0 after)) (slice_set s.blocks b.0 (with_control control x)) n out b.0 a in
-    let now = whole ∙ ap (λ m. apply s (core_becomes c.0 (core_after_slice k b.0 m) ∷ block_becomes b.0 (with_control control x) ∷ outside_change b.0 n out)) clock in
-    let main = slice_answers s new c k b x n control sl out (running_of x) (on_core_is c.0 x here) need t now in
-    subst (λ (o : Option Block). Answers (entry_of c w) s new (outcome s (slice_turn c.0 k b.0 o))) (sym found)
-    (subst (λ (w : What). Answers (entry_of c w) s new (outcome s (slice_turn c.0 k b.0 (Some x)))) (sym (what ∙ ap (slice_what b sl) clock)) main)
+-- the same at a clock that is equal
+pub did_at : (c : ℕ) (k : Core) (b : ℕ) (o : Outside) (x : Block) (clock : ℕ) (t : Done) → clock ≡ k.clock → Some t ≡ done (λ (m : Need). o) k.settings.quantum c b clock (running_of x) → Some t ≡ done (λ (m : Need). o) k.settings.quantum c b k.clock (running_of x)
+did_at c k b o x clock t e d = subst (λ m. Some t ≡ done (λ (m : Need). o) k.settings.quantum c b m (running_of x)) e d
+
+abbrev by_core_at : CoreNo → What → Entry
+by_core_at c w = record { actor = actor.Core c; what = w }
+
+pub entry_at : (c : CoreNo) (b : BlockNo) (sl : Sliced) (w : What) (after clock : ℕ) → w ≡ slice_what b sl after → after ≡ clock → by_core_at c w ≡ by_core_at c (slice_what b sl clock)
+entry_at c b sl w after clock e f = ap (by_core_at c) (e ∙ ap (slice_what b sl) f)
+
+-- a slice of objects in hand
+pub held_slice : (c : CoreNo) (k k' : Core) (b : BlockNo) (x x' : Block) (n : Need) (o : Outside) (sl : Sliced) (out : Outside) (e : Entry) → IsOn c.0 x.whereabouts → n ≡ need_in (halfway_in k.settings.quantum k.clock (running_of x)) →
+    Some (told x'.control sl out) ≡ done (λ (m : Need). o) k.settings.quantum c.0 b.0 k.clock (running_of x) → k' ≡ core_after_slice k b.0 (k.clock + sl.advance) → x' ≡ with_control x'.control x →
+    e ≡ record { actor = actor.Core c; what = slice_what b sl (k.clock + sl.advance) } → IsSlice c.0 b.0 k k' x x' n o out e
+held_slice c k k' b x x' n o sl out e here need t core block entry = record {
+  turn = λ s looked.
+      slice_did s c k b x n x'.control sl out here need (looked_done s c.0 k b.0 n o (running_of x) (told x'.control sl out) need looked t)
+      ∙ ap (λ (m : Core). did (core_becomes c.0 m ∷ block_becomes b.0 (with_control x'.control x) ∷ outside_change b.0 n out) (record { actor = actor.Core c; what = slice_what b sl (k.clock + sl.advance) })) (sym core)
+      ∙ ap (λ (y : Block). did (core_becomes c.0 k' ∷ block_becomes b.0 y ∷ outside_change b.0 n out) (record { actor = actor.Core c; what = slice_what b sl (k.clock + sl.advance) })) (sym block)
+      ∙ ap (λ (w : Entry). did (core_becomes c.0 k' ∷ block_becomes b.0 x' ∷ outside_change b.0 n out) w) (sym entry);
+  kind = λ s looked. kind_kept s c.0 k b.0 n o (running_of x) (told x'.control sl out) need looked t;
+}
+
+-- a slice of objects in their places
+pub sliced : (s new : State) (c : CoreNo) (k k' : Core) (b : BlockNo) (x x' : Block) (n : Need) (o out : Outside) (e : Entry) → slice_get s.blocks b.0 ≡ Some x → o ≡ look_in s b.0 n → IsSlice c.0 b.0 k k' x x' n o out e →
+    IsAfter s new (slice_set s.cores c.0 k') (slice_set s.blocks b.0 x') (apply s (outside_change b.0 n out)) → Answers (stepped.Did e) s new (outcome s (slice_turn c.0 k b.0 (slice_get s.blocks b.0)))
+sliced s new c k k' b x x' n o out e found looked slice a =
+    let whole : new ≡ apply s (core_becomes c.0 k' ∷ block_becomes b.0 x' ∷ outside_change b.0 n out) = after_is s new (slice_set s.cores c.0 k') (slice_set s.blocks b.0 x') n out b.0 a in
+    subst (Answers (stepped.Did e) s new) (sym (ap (λ (y : Option Block). outcome s (slice_turn c.0 k b.0 y)) found ∙ slice.turn s looked)) (refl, whole)
 
 -- cores, blocks, mailboxes and the script of objects that keep them
 module _ {D : Type 0} (o u : Objects D) (h : KeepsRest o u) where
@@ -240,6 +255,9 @@ module _ {D : Type 0} (o u : Objects D) (h : KeepsRest o u) where
 
   pub blocks_kept : u.blocks.items ≡ o.blocks.items
   blocks_kept = let e = h.blocks in cc
+
+  pub core_is : (c : ℕ) (k v : Core) → slice_get o.cores.items c ≡ Some k → v ≡ get_or u.cores.items c v → v ≡ k
+  core_is c k v at e = item_is o.cores.items u.cores.items c k v cores_kept at e
 
   pub block_is : (b : ℕ) (x v : Block) → slice_get o.blocks.items b ≡ Some x → v ≡ get_or u.blocks.items b v → v ≡ x
   block_is b x v at e = item_is o.blocks.items u.blocks.items b x v blocks_kept at e

@@ -1,5 +1,6 @@
 pub mod Answers
 pub mod Handing
+pub mod Held
 pub mod InHand
 pub mod Lifts
 pub mod Nexts

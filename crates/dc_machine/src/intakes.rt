@@ -1,14 +1,15 @@
 //! Intake: the pending raise of a line reaches its signal.
 
-ghost use Rattle.std.specs.Prelude.{◌≡◌, ℕ, ◌<◌, Some, IfErr, IfOk, length, slice_get};
+ghost use Rattle.std.specs.Prelude.{◌≡◌, ℕ, ◌<◌, [], ◌∷◌, Some, IfErr, IfOk, IsSome, length, slice_get};
 ghost use Rattle.dc_base.specs.declared.actions.Actor.TheVariants as actor;
 ghost use Rattle.dc_base.specs.declared.actions.Action.TheVariants as action;
+ghost use Rattle.dc_base.specs.Changes.{block_becomes, line_becomes};
 ghost use Rattle.dc_base.specs.Cores.{core_step};
 ghost use Rattle.dc_base.specs.Intakes.{intake_line, intake_outcome};
 ghost use Rattle.dc_base.specs.Sound.{IsSound};
 ghost use Rattle.dc_base.specs.States.{Block};
 ghost use Rattle.dc_base.specs.Lines.{Wire};
-ghost use Rattle.dc_base.specs.Turns.{ends, not_enabled};
+ghost use Rattle.dc_base.specs.Turns.{did, ends, not_enabled};
 ghost use Rattle.dc_objects.specs.States.{state_of};
 ghost use Rattle.dc_machine.specs.Answers.{Answers, IsQuiet};
 ghost use Rattle.dc_machine.specs.Pendings.{IsPending};
@@ -22,7 +23,7 @@ use dc_base::interrupts::{Latch, Source};
 use dc_base::numbers::{BlockNo, CoreNo, LineNo, SignalNo};
 use dc_kernel::Driver;
 use dc_lines::Line;
-use dc_objects::{CoreState, Objects};
+use dc_objects::{BlockState, CoreState, Objects};
 
 /// A pending raise that a core may take in: its number, and the signal that it comes to.
 #[derive(Clone, Copy)]
@@ -59,21 +60,26 @@ pub(crate) fn raise_for(core: &CoreState, c: CoreNo, line: &Line) -> Result<Pend
 }
 
 /// The pending raise of line `l` comes to its signal.
-fn take_in<D: Driver>(objects: &mut Objects<D>, c: CoreNo, l: LineNo, p: Pending) -> Stepped
-    requires sound { IsSound (state_of objects.old) }
-    requires line { (w : Wire) × (slice_get objects.old.lines.items l.0 ≡ Some w) × (w.bound ≡ Some (p.block.0, p.signal.0)) × (w.pending ≡ Some p.number) }
-    requires block { (x : Block) × (slice_get objects.old.blocks.items p.block.0 ≡ Some x) × IsHeld x }
-    ensures step { (w : Wire) → slice_get objects.old.lines.items l.0 ≡ Some w →
-        Answers result (state_of objects.old) (state_of objects.new) (intake_outcome c.0 l.0 w p.number p.block.0 p.signal.0 (slice_get objects.old.blocks.items p.block.0)) }
-    ensures quiet { IsQuiet result }
+pub(crate) fn take_in_held<D: Driver>(
+    block: &mut BlockState<D>,
+    line: &mut Line,
+    c: CoreNo,
+    l: LineNo,
+    p: Pending,
+) -> Entry
+    requires bound { IsSome line.old.bound }
+    requires pending { IsSome line.old.pending }
+    requires held { IsHeld block.old }
+    requires signal { p.signal.0 < length block.old.control.parts.signals }
+    ensures { intake_outcome c.0 l.0 line.old p.number p.block.0 p.signal.0 (Some block.old) ≡ did (block_becomes p.block.0 block.new ∷ line_becomes l.0 line.new ∷ []) result }
 {
     let latch = Latch {
         source: Source::Line(l),
         value: p.number,
     };
-    let latched = objects.blocks[p.block.0 as usize].intake(p.signal, latch);
-    objects.lines[l.0 as usize].intake(latched);
-    Stepped::Did(Entry {
+    let latched = block.intake(p.signal, latch);
+    line.intake(latched);
+    Entry {
         actor: Actor::Core(c),
         what: What::Intake {
             line: l,
@@ -82,7 +88,21 @@ fn take_in<D: Driver>(objects: &mut Objects<D>, c: CoreNo, l: LineNo, p: Pending
             signal: p.signal,
             latched,
         },
-    })
+    }
+}
+
+/// The same, of objects in their places.
+fn take_in<D: Driver>(objects: &mut Objects<D>, c: CoreNo, l: LineNo, p: Pending) -> Stepped
+    requires sound { IsSound (state_of objects.old) }
+    requires line { (w : Wire) × (slice_get objects.old.lines.items l.0 ≡ Some w) × (w.bound ≡ Some (p.block.0, p.signal.0)) × (w.pending ≡ Some p.number) }
+    requires block { (x : Block) × (slice_get objects.old.blocks.items p.block.0 ≡ Some x) × IsHeld x }
+    ensures step { (w : Wire) → slice_get objects.old.lines.items l.0 ≡ Some w →
+        Answers result (state_of objects.old) (state_of objects.new) (intake_outcome c.0 l.0 w p.number p.block.0 p.signal.0 (slice_get objects.old.blocks.items p.block.0)) }
+    ensures quiet { IsQuiet result }
+{
+    let block = &mut objects.blocks[p.block.0 as usize];
+    let line = &mut objects.lines[l.0 as usize];
+    Stepped::Did(take_in_held(block, line, c, l, p))
 }
 
 /// A core takes the pending raise of line `l` in, if it may.

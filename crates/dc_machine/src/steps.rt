@@ -1,22 +1,25 @@
 //! Step: a slice of the first runnable block, or idle until the first timer is due.
 
-ghost use Rattle.std.specs.Prelude.{◌≡◌, ℕ, ◌<◌, ◌^◌, Some, true, slice_get, length, IfSome, ℤ, pos, ◌<ℤ◌};
+ghost use Rattle.std.specs.Prelude.{◌≡◌, ℕ, ◌<◌, ◌^◌, [], ◌∷◌, Some, true, slice_get, length, IfSome, ℤ, pos, ◌<ℤ◌};
 ghost use Rattle.std.specs.Option.{option_map};
 ghost use Rattle.dc_base.specs.declared.actions.Actor.TheVariants as actor;
 ghost use Rattle.dc_base.specs.declared.actions.Action.TheVariants as action;
 ghost use Rattle.dc_base.specs.declared.numbers.BlockNo.{BlockNo as Number};
+ghost use Rattle.dc_base.specs.Changes.{core_becomes};
 ghost use Rattle.dc_base.specs.Cores.{core_step};
 ghost use Rattle.dc_base.specs.Outcomes.{has};
 ghost use Rattle.dc_base.specs.Sound.{IsSound};
 ghost use Rattle.dc_base.specs.States.{Core, Block};
 ghost use Rattle.dc_base.specs.Steps.{next_due, idle_outcome, slice_turn};
-ghost use Rattle.dc_base.specs.Turns.{Looked, outcome};
+ghost use Rattle.dc_base.specs.Turns.{Looked, did, outcome};
 ghost use Rattle.dc_base.specs.Words.{above_zero};
 ghost use Rattle.dc_kernel.specs.Forwards.{IsForward, IsQuantum};
+ghost use Rattle.dc_kernel.specs.Outsides.{Fits, HasRoom, outside_seen};
 ghost use Rattle.dc_objects.specs.Blocks.{running_of};
 ghost use Rattle.dc_objects.specs.States.{state_of};
 ghost use Rattle.dc_machine.specs.Answers.{Answers, IsQuiet};
-ghost use Rattle.dc_machine.specs.InHand.{AreInHand, looked_in};
+ghost use Rattle.dc_machine.specs.Held.{IsSlice};
+ghost use Rattle.dc_machine.specs.InHand.{AreInHand, IsInHand, looked_in};
 ghost use Rattle.dc_machine.specs.Nexts.{earlier, stopped, first_runnable, IsNext, slice_what};
 
 use crate::blocks::Blocks;
@@ -25,8 +28,8 @@ use crate::turns::Stepped;
 use dc_base::actions::Actor;
 use dc_base::entries::{Entry, Reason, What};
 use dc_base::numbers::{BlockNo, CoreNo};
-use dc_kernel::{Driver, Forward, Sliced};
-use dc_objects::{CoreState, Objects};
+use dc_kernel::{Driver, Forward, Outside, Sliced};
+use dc_objects::{BlockState, CoreState, Objects};
 
 /// What a core does next: nothing, idle until its clock stands so, or a slice of a block.
 #[derive(Drop)]
@@ -151,7 +154,38 @@ pub(crate) fn slice_what(block: BlockNo, s: &Sliced, clock: u64) -> What
     }
 }
 
-/// A slice of a block of the share, which can run.
+/// A slice of a block of the share, which can run, with the object that its call needs.
+pub(crate) fn slice_held<D: Driver>(
+    core: &mut CoreState,
+    block: &mut BlockState<D>,
+    c: CoreNo,
+    b: BlockNo,
+    forward: &Forward,
+    outside: Outside,
+) -> (Entry, Outside)
+    requires share { has core.old.share b.0 ≡ true }
+    requires budget { core.old.used < core.old.settings.slices }
+    requires quantum { IsQuantum core.old.settings.quantum }
+    requires clock { core.old.clock < 2 ^ 63 }
+    requires block { IsInHand c.0 core.old.clock block.old }
+    requires forward { IsForward core.old.settings.quantum core.old.clock (running_of block.old) forward.now }
+    requires outside { Fits forward.now.need outside }
+    requires room { HasRoom outside }
+    ensures slice { IsSlice c.0 b.0 core.old core.new block.old block.new forward.now.need (outside_seen outside) (outside_seen result.1) result.0 }
+    ensures kind { Fits forward.now.need result.1 }
+{
+    let clock = core.clock();
+    let (sliced, outside) = block.slice(clock, c, b, forward, outside);
+    let after = clock + u64::from(sliced.advance);
+    core.ran(b, after);
+    let entry = Entry {
+        actor: Actor::Core(c),
+        what: slice_what(b, &sliced, after),
+    };
+    (entry, outside)
+}
+
+/// The same, of objects in their places.
 fn slice<D: Driver>(objects: &mut Objects<D>, c: CoreNo, b: BlockNo, forward: &Forward) -> Stepped
     requires sound { IsSound (state_of objects.old) }
     requires core { (k : Core) × (slice_get objects.old.cores.items c.0 ≡ Some k) × (has k.share b.0 ≡ true) × (k.used < k.settings.slices)
@@ -159,30 +193,33 @@ fn slice<D: Driver>(objects: &mut Objects<D>, c: CoreNo, b: BlockNo, forward: &F
     ensures step { (k : Core) → slice_get objects.old.cores.items c.0 ≡ Some k → Answers result (state_of objects.old) (state_of objects.new) (outcome (state_of objects.old) (slice_turn c.0 k b.0 (slice_get objects.old.blocks.items b.0))) }
     ensures quiet { IsQuiet result }
 {
-    let clock = objects.cores[c.0 as usize].clock();
     let outside = take_outside(objects, b, forward.need);
+    let core = &mut objects.cores[c.0 as usize];
     let block = &mut objects.blocks[b.0 as usize];
-    let (sliced, outside) = block.slice(clock, c, b, forward, outside);
+    let (entry, outside) = slice_held(core, block, c, b, forward, outside);
     put_outside(objects, b, forward.need, outside);
-    let after = clock + u64::from(sliced.advance);
-    objects.cores[c.0 as usize].ran(b, after);
-    Stepped::Did(Entry {
-        actor: Actor::Core(c),
-        what: slice_what(b, &sliced, after),
-    })
+    Stepped::Did(entry)
 }
 
 /// Idle until the core's clock stands so.
+pub(crate) fn idle_held(core: &mut CoreState, c: CoreNo, clock: u64) -> Entry
+    requires { core.old.used < core.old.settings.slices }
+    ensures { idle_outcome c.0 core.old (Some clock) ≡ did (core_becomes c.0 core.new ∷ []) result }
+{
+    core.idled(clock);
+    Entry {
+        actor: Actor::Core(c),
+        what: What::Idle { clock },
+    }
+}
+
+/// The same, of a core in its place.
 fn idle<D: Driver>(objects: &mut Objects<D>, c: CoreNo, clock: u64) -> Stepped
     requires { (k : Core) × (slice_get objects.old.cores.items c.0 ≡ Some k) × (k.used < k.settings.slices) }
     ensures step { (k : Core) → slice_get objects.old.cores.items c.0 ≡ Some k → Answers result (state_of objects.old) (state_of objects.new) (idle_outcome c.0 k (Some clock)) }
     ensures quiet { IsQuiet result }
 {
-    objects.cores[c.0 as usize].idled(clock);
-    Stepped::Did(Entry {
-        actor: Actor::Core(c),
-        what: What::Idle { clock },
-    })
+    Stepped::Did(idle_held(&mut objects.cores[c.0 as usize], c, clock))
 }
 
 /// A core's step.

@@ -1,12 +1,14 @@
 //! Wake: a dispatcher that waits on a channel goes on.
 
-ghost use Rattle.std.specs.Prelude.{◌≡◌, ◌<◌, Some, IsSome, length, slice_get};
+ghost use Rattle.std.specs.Prelude.{◌≡◌, ◌<◌, [], ◌∷◌, Some, IsSome, length, slice_get};
 ghost use Rattle.dc_base.specs.declared.actions.Actor.TheVariants as actor;
 ghost use Rattle.dc_base.specs.declared.actions.Action.TheVariants as action;
+ghost use Rattle.dc_base.specs.Changes.{block_becomes, core_becomes};
 ghost use Rattle.dc_base.specs.Cores.{core_step};
 ghost use Rattle.dc_base.specs.KeptByBlocks.{HasShape};
 ghost use Rattle.dc_base.specs.Sound.{IsSound};
 ghost use Rattle.dc_base.specs.States.{Block, Core};
+ghost use Rattle.dc_base.specs.Turns.{did};
 ghost use Rattle.dc_base.specs.Wakes.{after_wake};
 ghost use Rattle.dc_objects.specs.Blocks.{IsHeld};
 ghost use Rattle.dc_objects.specs.States.{state_of};
@@ -21,7 +23,7 @@ use dc_base::numbers::{BlockNo, ChanNo, CoreNo, DispNo};
 use dc_channel::Channel;
 use dc_isa::{DispState, Wait};
 use dc_kernel::Driver;
-use dc_objects::{BlockState, Objects};
+use dc_objects::{BlockState, CoreState, Objects};
 
 /// What a dispatcher waits for on a channel: room to send, or a message to receive.
 #[derive(Clone, Copy)]
@@ -73,6 +75,27 @@ pub(crate) fn goes_on(wait: ChannelWait, channel: &Channel) -> bool
 }
 
 /// Dispatcher `d`, which waits on a channel, is ready again.
+pub(crate) fn wake_held<D: Driver>(
+    core: &mut CoreState,
+    block: &mut BlockState<D>,
+    c: CoreNo,
+    b: BlockNo,
+    d: DispNo,
+) -> Entry
+    requires budget { core.old.used < core.old.settings.slices }
+    requires held { IsHeld block.old }
+    requires waits { IsSome (channel_wait (slice_get block.old.control.states d.0)) }
+    ensures { after_wake c.0 core.old b.0 d.0 block.old ≡ did (core_becomes c.0 core.new ∷ block_becomes b.0 block.new ∷ []) result }
+{
+    core.count();
+    block.wake(d);
+    Entry {
+        actor: Actor::Core(c),
+        what: What::Wake { block: b, disp: d },
+    }
+}
+
+/// The same, of objects in their places.
 fn wake<D: Driver>(objects: &mut Objects<D>, c: CoreNo, b: BlockNo, d: DispNo) -> Stepped
     requires core { (k : Core) × (slice_get objects.old.cores.items c.0 ≡ Some k) × (k.used < k.settings.slices) }
     requires block { (x : Block) × (slice_get objects.old.blocks.items b.0 ≡ Some x) × IsHeld x × IsSome (channel_wait (slice_get x.control.states d.0)) }
@@ -80,12 +103,9 @@ fn wake<D: Driver>(objects: &mut Objects<D>, c: CoreNo, b: BlockNo, d: DispNo) -
         Answers result (state_of objects.old) (state_of objects.new) (after_wake c.0 k b.0 d.0 x) }
     ensures quiet { IsQuiet result }
 {
-    objects.cores[c.0 as usize].count();
-    objects.blocks[b.0 as usize].wake(d);
-    Stepped::Did(Entry {
-        actor: Actor::Core(c),
-        what: What::Wake { block: b, disp: d },
-    })
+    let core = &mut objects.cores[c.0 as usize];
+    let block = &mut objects.blocks[b.0 as usize];
+    Stepped::Did(wake_held(core, block, c, b, d))
 }
 
 /// A core wakes dispatcher `d` of block `b`, if it can go on.
