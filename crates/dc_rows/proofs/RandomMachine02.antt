@@ -1,13 +1,8 @@
 -- A random machine, of seed 20002.
-use Rattle.std.specs.Prelude.{◌≡◌, ℕ, List, [], ◌∷◌, ◌++◌, codes, refl, true, Some, None}
+-- Made by tools/worked_examples.py from examples/RandomMachine02.
+use Rattle.std.specs.Prelude.{◌≡◌, ℕ, List, [], ◌∷◌, refl, true, None, Some}
 use Rattle.std.specs.Option.{option_map}
-use Rattle.dc_rows.specs.Facts.{facts_told, facts_of}
-use Rattle.dc_rows.specs.Tabled.{tabled}
-use Rattle.dc_rows.specs.Computed.{machine_of_blocks, machine_with_cores, whole_texts}
-use Rattle.dc_base.specs.Runs.{run}
-use Rattle.dc_base.specs.CoreRuns.{core_run}
 use Rattle.dc_base.specs.declared.images.Image.{Image}
-use Rattle.dc_base.specs.declared.capabilities.CapKind.TheVariants as kind
 use Rattle.dc_base.specs.declared.kernels.Version.TheVariants.{Rr}
 use Rattle.dc_base.specs.declared.kernels.Clocks.TheVariants.{Running}
 use Rattle.dc_base.specs.declared.actions.Actor.{Actor}
@@ -15,22 +10,25 @@ use Rattle.dc_base.specs.declared.actions.Action.{Action}
 use Rattle.dc_base.specs.declared.calls.Op.TheVariants as op
 use Rattle.dc_base.specs.declared.calls.End.TheVariants as end
 use Rattle.dc_base.specs.declared.interrupts.Latched.TheVariants as how
-use Rattle.dc_base.specs.declared.interrupts.Raised.TheVariants as raise
 use Rattle.dc_base.specs.declared.commands.ScriptLine.{ScriptLine}
-use Rattle.dc_base.specs.declared.commands.ScriptLine.TheVariants as lines
-use Rattle.dc_base.specs.declared.commands.Command.TheVariants as command
 use Rattle.dc_base.specs.declared.entries.Entry.{Entry}
-use Rattle.dc_rows.specs.Texts as texts
+use Rattle.dc_base.specs.declared.entries.Reason.TheVariants as why
 use Rattle.dc_base.specs.declared.reports.ReportLine.{ReportLine}
-use Rattle.dc_base.specs.declared.reports.ReportLine.TheVariants as rl
-use Rattle.dc_base.specs.declared.dispatchers.DispState.TheVariants as ds
-use Rattle.dc_base.specs.declared.dispatchers.Wait.TheVariants as wt
-use Rattle.dc_base.specs.declared.interrupts.Source.TheVariants as so
-use Rattle.dc_base.specs.declared.entries.Reason.TheVariants as rs
-use Rattle.dc_rows.specs.Played.{played, judged, first_bads}
-use Rattle.dc_base.specs.TextWords.{ended}
+use Rattle.dc_base.specs.declared.dispatchers.DispState.TheVariants as state
+use Rattle.dc_base.specs.Runs.{run}
+use Rattle.dc_base.specs.CoreRuns.{core_run}
 use Rattle.dc_base.specs.Shown.{all_shown_by}
 use Rattle.dc_base.specs.Headline.{blocks_reported, blocks_held}
+use Rattle.dc_rows.specs.Computed.{machine_of_blocks, machine_with_cores, whole_texts}
+use Rattle.dc_rows.specs.Facts.{facts_told, facts_of}
+use Rattle.dc_rows.specs.Images as image_of
+use Rattle.dc_rows.specs.Orders as order
+use Rattle.dc_rows.specs.Played.{played, judged, first_bads}
+use Rattle.dc_rows.specs.Reports as report_line
+use Rattle.dc_rows.specs.Scripts as script_line
+use Rattle.dc_rows.specs.Tabled.{tabled}
+use Rattle.dc_rows.specs.Texts as texts
+use Rattle.dc_rows.specs.WrongJournals.{with_line}
 
 abbrev image : Image
 image = record {
@@ -39,42 +37,275 @@ image = record {
   quantum = 4;
   slices = 1000;
   lines = 2;
-  cores = (record { base = 1099511627776; version = Some Rr } ∷ record { base = 61763; version = None } ∷ []);
-  blocks = (record {
-    home = Some (record { 0 = 0 });
-    memory = [];
-    ports = 1;
-    signals = 3;
-    disps = (record { code = (18874378 ∷ 22020106 ∷ 22020596 ∷ 739508224 ∷ 641859584 ∷ 538968064 ∷ 22020096 ∷ 268763136 ∷ 251658246 ∷ []); period = 10; due = 0; caps = (record { slot = 14; cap = record { kind = kind.Frame 4 16; rights = 7 } } ∷ record { slot = 3; cap = record { kind = kind.Ram 100 100; rights = 7 } } ∷ record { slot = 10; cap = record { kind = kind.Port (record { 0 = 0 }); rights = 7 } } ∷ record { slot = 8; cap = record { kind = kind.Signal (record { 0 = 1 }); rights = 7 } } ∷ record { slot = 4; cap = record { kind = kind.Signal (record { 0 = 2 }); rights = 7 } } ∷ record { slot = 13; cap = record { kind = kind.RecvEnd (record { 0 = 0 }); rights = 7 } } ∷ record { slot = 1; cap = record { kind = kind.Line (record { 0 = 0 }); rights = 7 } } ∷ []) } ∷ record { code = (540016640 ∷ 18874433 ∷ 167903232 ∷ 536870912 ∷ 636551170 ∷ 251658240 ∷ []); period = 1; due = 4294967295; caps = (record { slot = 1; cap = record { kind = kind.Frame 40 16; rights = 7 } } ∷ record { slot = 4; cap = record { kind = kind.Ram 100 64; rights = 7 } } ∷ record { slot = 6; cap = record { kind = kind.Port (record { 0 = 0 }); rights = 7 } } ∷ record { slot = 14; cap = record { kind = kind.Signal (record { 0 = 0 }); rights = 7 } } ∷ record { slot = 11; cap = record { kind = kind.Signal (record { 0 = 2 }); rights = 7 } } ∷ record { slot = 15; cap = record { kind = kind.RecvEnd (record { 0 = 0 }); rights = 7 } } ∷ record { slot = 8; cap = record { kind = kind.Line (record { 0 = 0 }); rights = 7 } } ∷ []) } ∷ record { code = (748879872 ∷ 553648128 ∷ 633143304 ∷ 633143299 ∷ 748879872 ∷ 640811008 ∷ 538968064 ∷ 19926944 ∷ 270729217 ∷ 16777682 ∷ 288358403 ∷ 583860227 ∷ 251658241 ∷ []); period = 1; due = 100; caps = (record { slot = 13; cap = record { kind = kind.Frame 466 16; rights = 7 } } ∷ record { slot = 1; cap = record { kind = kind.Ram 0 1000; rights = 7 } } ∷ record { slot = 12; cap = record { kind = kind.Port (record { 0 = 0 }); rights = 7 } } ∷ record { slot = 9; cap = record { kind = kind.Signal (record { 0 = 1 }); rights = 7 } } ∷ record { slot = 3; cap = record { kind = kind.Signal (record { 0 = 2 }); rights = 7 } } ∷ record { slot = 11; cap = record { kind = kind.RecvEnd (record { 0 = 0 }); rights = 7 } } ∷ record { slot = 10; cap = record { kind = kind.Line (record { 0 = 0 }); rights = 7 } } ∷ []) } ∷ []);
-  } ∷ record {
-    home = None;
-    memory = (7 ∷ 0 ∷ 2 ∷ 7 ∷ 1 ∷ 716 ∷ 1 ∷ 4294967295 ∷ []);
-    ports = 0;
-    signals = 0;
-    disps = (record { code = (20972020 ∷ 542113792 ∷ 222560260 ∷ 67108864 ∷ 682819586 ∷ 707788800 ∷ 20975615 ∷ 268697600 ∷ 606666755 ∷ 16777256 ∷ 289406978 ∷ 606666754 ∷ []); period = 2; due = 4294967295; caps = (record { slot = 9; cap = record { kind = kind.Frame 40 8; rights = 7 } } ∷ record { slot = 11; cap = record { kind = kind.Ram 100 3996; rights = 7 } } ∷ record { slot = 2; cap = record { kind = kind.SendEnd (record { 0 = 0 }); rights = 7 } } ∷ record { slot = 14; cap = record { kind = kind.Line (record { 0 = 1 }); rights = 7 } } ∷ []) } ∷ []);
-  } ∷ []);
-  channels = (record { from = (record { 0 = 1 }); to = (record { 0 = 0 }); capacity = 4 } ∷ []);
+  cores =
+      image_of.core 1099511627776 Rr ∷ image_of.core_off 61763 ∷ [];
+  blocks =
+      record {
+        home = image_of.home 0;
+        memory = [];
+        ports = 1;
+        signals = 3;
+        disps =
+            record {
+              code =
+                  18874378  -- li r2 10
+                  ∷ 22020106  -- li r5 10
+                  ∷ 22020596  -- li r5 500
+                  ∷ 739508224  -- bind s1 s4
+                  ∷ 641859584  -- wait s4 r2
+                  ∷ 538968064  -- out r2
+                  ∷ 22020096  -- li r5 0
+                  ∷ 268763136  -- ld r0 r5 0
+                  ∷ 251658246  -- jmp 6
+                  ∷ [];
+              period = 10;
+              due = 0;
+              caps =
+                  image_of.cap 14 (image_of.frame 4 16) 7 ∷ image_of.cap 3 (image_of.ram 100 100) 7 ∷ image_of.cap 10 (image_of.port 0) 7
+                  ∷ image_of.cap 8 (image_of.signal 1) 7 ∷ image_of.cap 4 (image_of.signal 2) 7 ∷ image_of.cap 13 (image_of.recvend 0) 7
+                  ∷ image_of.cap 1 (image_of.line 0) 7 ∷ [];
+            }
+            ∷ record {
+              code =
+                  540016640  -- out r3
+                  ∷ 18874433  -- li r2 65
+                  ∷ 167903232  -- shl r0 r2
+                  ∷ 536870912  -- out r0
+                  ∷ 636551170  -- crecv s15 s1 2
+                  ∷ 251658240  -- jmp 0
+                  ∷ [];
+              period = 1;
+              due = 4294967295;
+              caps =
+                  image_of.cap 1 (image_of.frame 40 16) 7 ∷ image_of.cap 4 (image_of.ram 100 64) 7 ∷ image_of.cap 6 (image_of.port 0) 7
+                  ∷ image_of.cap 14 (image_of.signal 0) 7 ∷ image_of.cap 11 (image_of.signal 2) 7 ∷ image_of.cap 15 (image_of.recvend 0) 7
+                  ∷ image_of.cap 8 (image_of.line 0) 7 ∷ [];
+            }
+            ∷ record {
+              code =
+                  748879872  -- bind s10 s3
+                  ∷ 553648128  -- yield
+                  ∷ 633143304  -- crecv s11 s13 8
+                  ∷ 633143299  -- crecv s11 s13 3
+                  ∷ 748879872  -- bind s10 s3
+                  ∷ 640811008  -- wait s3 r2
+                  ∷ 538968064  -- out r2
+                  ∷ 19926944  -- li r3 4000
+                  ∷ 270729217  -- ld r2 r3 1
+                  ∷ 16777682  -- li r0 466
+                  ∷ 288358403  -- st r3 r0 3
+                  ∷ 583860227  -- send s12 s13 3
+                  ∷ 251658241  -- jmp 1
+                  ∷ [];
+              period = 1;
+              due = 100;
+              caps =
+                  image_of.cap 13 (image_of.frame 466 16) 7 ∷ image_of.cap 1 (image_of.ram 0 1000) 7 ∷ image_of.cap 12 (image_of.port 0) 7
+                  ∷ image_of.cap 9 (image_of.signal 1) 7 ∷ image_of.cap 3 (image_of.signal 2) 7 ∷ image_of.cap 11 (image_of.recvend 0) 7
+                  ∷ image_of.cap 10 (image_of.line 0) 7 ∷ [];
+            }
+            ∷ [];
+      }
+      ∷ record {
+        home = None;
+        memory =
+            7 ∷ 0 ∷ 2 ∷ 7 ∷ 1 ∷ 716 ∷ 1 ∷ 4294967295 ∷ [];
+        ports = 0;
+        signals = 0;
+        disps =
+            record {
+              code =
+                  20972020  -- li r4 500
+                  ∷ 542113792  -- out r5
+                  ∷ 222560260  -- bne r4 r4 4
+                  ∷ 67108864  -- add r0 r0
+                  ∷ 682819586  -- copy s11 s3 2
+                  ∷ 707788800  -- delete s3
+                  ∷ 20975615  -- li r4 4095
+                  ∷ 268697600  -- ld r0 r4 0
+                  ∷ 606666755  -- csend s2 s9 3
+                  ∷ 16777256  -- li r0 40
+                  ∷ 289406978  -- st r4 r0 2
+                  ∷ 606666754  -- csend s2 s9 2
+                  ∷ [];
+              period = 2;
+              due = 4294967295;
+              caps =
+                  image_of.cap 9 (image_of.frame 40 8) 7 ∷ image_of.cap 11 (image_of.ram 100 3996) 7 ∷ image_of.cap 2 (image_of.sendend 0) 7
+                  ∷ image_of.cap 14 (image_of.line 1) 7 ∷ [];
+            }
+            ∷ [];
+      }
+      ∷ [];
+  channels =
+      image_of.channel 1 0 4 ∷ [];
 }
 
 abbrev script : List ScriptLine
-script = (lines.Raise (record { 0 = 0 }) ∷ lines.Raise (record { 0 = 0 }) ∷ lines.Raise (record { 0 = 0 }) ∷ lines.Raise (record { 0 = 1 }) ∷ lines.Raise (record { 0 = 1 }) ∷ lines.Raise (record { 0 = 0 }) ∷ lines.Boot (command.Stop (record { 0 = 0 })) ∷ lines.Raise (record { 0 = 0 }) ∷ lines.Raise (record { 0 = 1 }) ∷ lines.Await (record { 0 = 1 }) 100 50 ∷ [])
+script =
+    script_line.raise 0 ∷ script_line.raise 0 ∷ script_line.raise 0 ∷ script_line.raise 1 ∷ script_line.raise 1 ∷ script_line.raise 0 ∷ script_line.stop 0
+    ∷ script_line.raise 0 ∷ script_line.raise 1 ∷ script_line.await 1 100 50 ∷ []
 
 abbrev schedule : List (Actor × Action)
-schedule = (texts.wake 1 1 0 ∷ texts.wake 1 0 0 ∷ texts.step 0 ∷ texts.step 0 ∷ texts.step 1 ∷ texts.order 0 ∷ texts.step 0 ∷ texts.raise ∷ texts.script ∷ texts.intake 0 0 ∷ texts.step 0 ∷ texts.step 0 ∷ texts.step 0 ∷ texts.script ∷ texts.raise ∷ texts.raise ∷ texts.step 0 ∷ texts.intake 0 0 ∷ texts.step 0 ∷ texts.intake 1 1 ∷ texts.step 0 ∷ texts.step 0 ∷ texts.step 0 ∷ texts.step 1 ∷ texts.script ∷ texts.step 0 ∷ texts.step 0 ∷ texts.order 0 ∷ texts.order 0 ∷ texts.script ∷ texts.intake 1 0 ∷ texts.step 0 ∷ texts.wake 1 0 0 ∷ texts.step 0 ∷ texts.step 0 ∷ texts.intake 1 1 ∷ texts.script ∷ texts.step 0 ∷ texts.step 0 ∷ texts.wake 0 0 2 ∷ [])
+schedule =
+    texts.wake 1 1 0 ∷ texts.wake 1 0 0 ∷ texts.step 0 ∷ texts.step 0 ∷ texts.step 1 ∷ texts.order 0 ∷ texts.step 0 ∷ texts.raise ∷ texts.script
+    ∷ texts.intake 0 0 ∷ texts.step 0 ∷ texts.step 0 ∷ texts.step 0 ∷ texts.script ∷ texts.raise ∷ texts.raise ∷ texts.step 0 ∷ texts.intake 0 0
+    ∷ texts.step 0 ∷ texts.intake 1 1 ∷ texts.step 0 ∷ texts.step 0 ∷ texts.step 0 ∷ texts.step 1 ∷ texts.script ∷ texts.step 0 ∷ texts.step 0
+    ∷ texts.order 0 ∷ texts.order 0 ∷ texts.script ∷ texts.intake 1 0 ∷ texts.step 0 ∷ texts.wake 1 0 0 ∷ texts.step 0 ∷ texts.step 0 ∷ texts.intake 1 1
+    ∷ texts.script ∷ texts.step 0 ∷ texts.step 0 ∷ texts.wake 0 0 2 ∷ []
 
 abbrev journal : List Entry
-journal = (texts.slice 0 0 0 0 3 (end.Call op.Bind) 1099511627780 ∷ texts.slice 0 0 1 0 0 (end.Call op.Out) 1099511627781 ∷ texts.slice 0 0 2 0 0 (end.Call op.Bind) 1099511627782 ∷ texts.raised 0 0 (raise.Pended 1) ∷ texts.taken_in 0 0 1 0 2 how.Latched ∷ texts.slice 0 0 0 0 0 (end.Call op.Wait) 1099511627783 ∷ texts.slice 0 0 1 0 2 (end.Call op.Out) 1099511627786 ∷ texts.slice 0 0 2 0 0 (end.Call op.Yield) 1099511627787 ∷ texts.raised 1 0 (raise.Pended 2) ∷ texts.raised 2 0 (raise.Coalesced 3) ∷ texts.slice 0 0 0 0 0 (end.Call op.Out) 1099511627788 ∷ texts.taken_in 0 0 2 0 2 how.Latched ∷ texts.slice 0 0 1 0 0 (end.Hold op.Crecv) 1099511627789 ∷ texts.slice 0 0 2 0 0 (end.Hold op.Crecv) 1099511627790 ∷ texts.slice 0 0 0 0 4 end.Quantum 1099511627794 ∷ texts.slice 0 0 0 0 4 end.Quantum 1099511627798 ∷ texts.slice 0 0 0 0 4 end.Quantum 1099511627802 ∷ texts.slice 0 0 0 0 4 end.Quantum 1099511627806 ∷ texts.slice 0 0 0 0 4 end.Quantum 1099511627810 ∷ texts.slice 0 0 0 0 4 end.Quantum 1099511627814 ∷ texts.slice 0 0 0 0 4 end.Quantum 1099511627818 ∷ texts.slice 0 0 0 0 4 end.Quantum 1099511627822 ∷ texts.slice 0 0 0 0 4 end.Quantum 1099511627826 ∷ [])
+journal =
+    texts.slice 0 0 0 0 3 (end.Call op.Bind) 1099511627780
+    ∷ texts.slice 0 0 1 0 0 (end.Call op.Out) 1099511627781
+    ∷ texts.slice 0 0 2 0 0 (end.Call op.Bind) 1099511627782
+    ∷ texts.raised 0 0 (order.pending 1)
+    ∷ texts.taken_in 0 0 1 0 2 how.Latched
+    ∷ texts.slice 0 0 0 0 0 (end.Call op.Wait) 1099511627783
+    ∷ texts.slice 0 0 1 0 2 (end.Call op.Out) 1099511627786
+    ∷ texts.slice 0 0 2 0 0 (end.Call op.Yield) 1099511627787
+    ∷ texts.raised 1 0 (order.pending 2)
+    ∷ texts.raised 2 0 (order.coalesced 3)
+    ∷ texts.slice 0 0 0 0 0 (end.Call op.Out) 1099511627788
+    ∷ texts.taken_in 0 0 2 0 2 how.Latched
+    ∷ texts.slice 0 0 1 0 0 (end.Hold op.Crecv) 1099511627789
+    ∷ texts.slice 0 0 2 0 0 (end.Hold op.Crecv) 1099511627790
+    ∷ texts.slice 0 0 0 0 4 end.Quantum 1099511627794
+    ∷ texts.slice 0 0 0 0 4 end.Quantum 1099511627798
+    ∷ texts.slice 0 0 0 0 4 end.Quantum 1099511627802
+    ∷ texts.slice 0 0 0 0 4 end.Quantum 1099511627806
+    ∷ texts.slice 0 0 0 0 4 end.Quantum 1099511627810
+    ∷ texts.slice 0 0 0 0 4 end.Quantum 1099511627814
+    ∷ texts.slice 0 0 0 0 4 end.Quantum 1099511627818
+    ∷ texts.slice 0 0 0 0 4 end.Quantum 1099511627822
+    ∷ texts.slice 0 0 0 0 4 end.Quantum 1099511627826
+    ∷ []
 
 abbrev report : List ReportLine
-report = (rl.CoreOn (record { 0 = 0 }) Rr 1099511627826 (Some (record { 0 = 0 })) (record { items = ((record { 0 = 0 }) ∷ []) }) 18 ∷ rl.CoreOff (record { 0 = 1 }) 61763 0 ∷ rl.Block (record { 0 = 0 }) (Some (record { 0 = 0 })) 50 0 ∷ rl.Disp (record { 0 = 0 }) (record { 0 = 0 }) ds.Ready 6 0 ∷ rl.Disp (record { 0 = 0 }) (record { 0 = 1 }) (ds.Waits (wt.Crecv (record { 0 = 0 }))) 4 4294967295 ∷ rl.Disp (record { 0 = 0 }) (record { 0 = 2 }) (ds.Waits (wt.Crecv (record { 0 = 0 }))) 2 100 ∷ rl.Ready (record { 0 = 0 }) (record { items = ((record { 0 = 0 }) ∷ []) }) ∷ rl.Cap (record { 0 = 0 }) (record { 0 = 1 }) (record { kind = kind.Line (record { 0 = 0 }); rights = 7 }) None ∷ rl.Cap (record { 0 = 0 }) (record { 0 = 3 }) (record { kind = kind.Ram 100 100; rights = 7 }) None ∷ rl.Cap (record { 0 = 0 }) (record { 0 = 4 }) (record { kind = kind.Signal (record { 0 = 2 }); rights = 7 }) None ∷ rl.Cap (record { 0 = 0 }) (record { 0 = 8 }) (record { kind = kind.Signal (record { 0 = 1 }); rights = 7 }) None ∷ rl.Cap (record { 0 = 0 }) (record { 0 = 10 }) (record { kind = kind.Port (record { 0 = 0 }); rights = 7 }) None ∷ rl.Cap (record { 0 = 0 }) (record { 0 = 13 }) (record { kind = kind.RecvEnd (record { 0 = 0 }); rights = 7 }) None ∷ rl.Cap (record { 0 = 0 }) (record { 0 = 14 }) (record { kind = kind.Frame 4 16; rights = 7 }) None ∷ rl.Cap (record { 0 = 0 }) (record { 0 = 17 }) (record { kind = kind.Frame 40 16; rights = 7 }) None ∷ rl.Cap (record { 0 = 0 }) (record { 0 = 20 }) (record { kind = kind.Ram 100 64; rights = 7 }) None ∷ rl.Cap (record { 0 = 0 }) (record { 0 = 22 }) (record { kind = kind.Port (record { 0 = 0 }); rights = 7 }) None ∷ rl.Cap (record { 0 = 0 }) (record { 0 = 24 }) (record { kind = kind.Line (record { 0 = 0 }); rights = 7 }) None ∷ rl.Cap (record { 0 = 0 }) (record { 0 = 27 }) (record { kind = kind.Signal (record { 0 = 2 }); rights = 7 }) None ∷ rl.Cap (record { 0 = 0 }) (record { 0 = 30 }) (record { kind = kind.Signal (record { 0 = 0 }); rights = 7 }) None ∷ rl.Cap (record { 0 = 0 }) (record { 0 = 31 }) (record { kind = kind.RecvEnd (record { 0 = 0 }); rights = 7 }) None ∷ rl.Cap (record { 0 = 0 }) (record { 0 = 33 }) (record { kind = kind.Ram 0 1000; rights = 7 }) None ∷ rl.Cap (record { 0 = 0 }) (record { 0 = 35 }) (record { kind = kind.Signal (record { 0 = 2 }); rights = 7 }) None ∷ rl.Cap (record { 0 = 0 }) (record { 0 = 41 }) (record { kind = kind.Signal (record { 0 = 1 }); rights = 7 }) None ∷ rl.Cap (record { 0 = 0 }) (record { 0 = 42 }) (record { kind = kind.Line (record { 0 = 0 }); rights = 7 }) None ∷ rl.Cap (record { 0 = 0 }) (record { 0 = 43 }) (record { kind = kind.RecvEnd (record { 0 = 0 }); rights = 7 }) None ∷ rl.Cap (record { 0 = 0 }) (record { 0 = 44 }) (record { kind = kind.Port (record { 0 = 0 }); rights = 7 }) None ∷ rl.Cap (record { 0 = 0 }) (record { 0 = 45 }) (record { kind = kind.Frame 466 16; rights = 7 }) None ∷ rl.Signal (record { 0 = 0 }) (record { 0 = 2 }) (record { source = so.Line (record { 0 = 0 }); value = 2 }) ∷ rl.Block (record { 0 = 1 }) None 0 0 ∷ rl.Disp (record { 0 = 1 }) (record { 0 = 0 }) ds.Ready 0 4294967295 ∷ rl.Ready (record { 0 = 1 }) (record { items = ((record { 0 = 0 }) ∷ []) }) ∷ rl.Cap (record { 0 = 1 }) (record { 0 = 2 }) (record { kind = kind.SendEnd (record { 0 = 0 }); rights = 7 }) None ∷ rl.Cap (record { 0 = 1 }) (record { 0 = 9 }) (record { kind = kind.Frame 40 8; rights = 7 }) None ∷ rl.Cap (record { 0 = 1 }) (record { 0 = 11 }) (record { kind = kind.Ram 100 3996; rights = 7 }) None ∷ rl.Cap (record { 0 = 1 }) (record { 0 = 14 }) (record { kind = kind.Line (record { 0 = 1 }); rights = 7 }) None ∷ rl.Channel (record { 0 = 0 }) 0 0 ∷ rl.Line (record { 0 = 0 }) (Some ((record { 0 = 0 }), (record { 0 = 2 }))) (Some (record { 0 = 0 })) 3 0 0 1 1 0 1 ∷ rl.Line (record { 0 = 1 }) None None 0 0 0 0 0 0 0 ∷ rl.Out (record { 0 = 0 }) 0 ∷ rl.Out (record { 0 = 0 }) 0 ∷ rl.Out (record { 0 = 0 }) 1 ∷ [])
+report =
+    report_line.core_on 0 Rr 1099511627826 (Some 0) (0 ∷ []) 18
+    ∷ report_line.core_off 1 61763 0
+    ∷ report_line.block 0 (Some 0) 50 0
+    ∷ report_line.disp 0 0 state.Ready 6 0
+    ∷ report_line.disp 0 1 (report_line.waits_crecv 0) 4 4294967295
+    ∷ report_line.disp 0 2 (report_line.waits_crecv 0) 2 100
+    ∷ report_line.ready 0 (0 ∷ [])
+    ∷ report_line.cap 0 1 (image_of.line 0) 7 None
+    ∷ report_line.cap 0 3 (image_of.ram 100 100) 7 None
+    ∷ report_line.cap 0 4 (image_of.signal 2) 7 None
+    ∷ report_line.cap 0 8 (image_of.signal 1) 7 None
+    ∷ report_line.cap 0 10 (image_of.port 0) 7 None
+    ∷ report_line.cap 0 13 (image_of.recvend 0) 7 None
+    ∷ report_line.cap 0 14 (image_of.frame 4 16) 7 None
+    ∷ report_line.cap 0 17 (image_of.frame 40 16) 7 None
+    ∷ report_line.cap 0 20 (image_of.ram 100 64) 7 None
+    ∷ report_line.cap 0 22 (image_of.port 0) 7 None
+    ∷ report_line.cap 0 24 (image_of.line 0) 7 None
+    ∷ report_line.cap 0 27 (image_of.signal 2) 7 None
+    ∷ report_line.cap 0 30 (image_of.signal 0) 7 None
+    ∷ report_line.cap 0 31 (image_of.recvend 0) 7 None
+    ∷ report_line.cap 0 33 (image_of.ram 0 1000) 7 None
+    ∷ report_line.cap 0 35 (image_of.signal 2) 7 None
+    ∷ report_line.cap 0 41 (image_of.signal 1) 7 None
+    ∷ report_line.cap 0 42 (image_of.line 0) 7 None
+    ∷ report_line.cap 0 43 (image_of.recvend 0) 7 None
+    ∷ report_line.cap 0 44 (image_of.port 0) 7 None
+    ∷ report_line.cap 0 45 (image_of.frame 466 16) 7 None
+    ∷ report_line.signal 0 2 (report_line.from_line 0) 2
+    ∷ report_line.block 1 None 0 0
+    ∷ report_line.disp 1 0 state.Ready 0 4294967295
+    ∷ report_line.ready 1 (0 ∷ [])
+    ∷ report_line.cap 1 2 (image_of.sendend 0) 7 None
+    ∷ report_line.cap 1 9 (image_of.frame 40 8) 7 None
+    ∷ report_line.cap 1 11 (image_of.ram 100 3996) 7 None
+    ∷ report_line.cap 1 14 (image_of.line 1) 7 None
+    ∷ report_line.channel 0 0 0
+    ∷ report_line.wire 0 (Some (0, 2)) (Some 0) 3 0 0 1 1 0 1
+    ∷ report_line.wire 1 None None 0 0 0 0 0 0 0
+    ∷ report_line.out 0 0
+    ∷ report_line.out 0 0
+    ∷ report_line.out 0 1
+    ∷ []
 
 abbrev text : List ℕ
-text = ended (codes "0 core 0 slice 0 0 fired 0 ran 3 call bind clock 1099511627780") ++ ended (codes "1 core 0 slice 0 1 fired 0 ran 0 call out clock 1099511627781") ++ ended (codes "2 core 0 slice 0 2 fired 0 ran 0 call bind clock 1099511627782") ++ ended (codes "3 script 0 raise 0 1 pending") ++ ended (codes "4 core 0 intake 0 1 0 2 latched") ++ ended (codes "5 core 0 slice 0 0 fired 0 ran 0 call wait clock 1099511627783") ++ ended (codes "6 core 0 slice 0 1 fired 0 ran 2 call out clock 1099511627786") ++ ended (codes "7 core 0 slice 0 2 fired 0 ran 0 call yield clock 1099511627787") ++ ended (codes "8 script 1 raise 0 2 pending") ++ ended (codes "9 script 2 raise 0 3 coalesced") ++ ended (codes "10 core 0 slice 0 0 fired 0 ran 0 call out clock 1099511627788") ++ ended (codes "11 core 0 intake 0 2 0 2 latched") ++ ended (codes "12 core 0 slice 0 1 fired 0 ran 0 hold crecv clock 1099511627789") ++ ended (codes "13 core 0 slice 0 2 fired 0 ran 0 hold crecv clock 1099511627790") ++ ended (codes "14 core 0 slice 0 0 fired 0 ran 4 quantum clock 1099511627794") ++ ended (codes "15 core 0 slice 0 0 fired 0 ran 4 quantum clock 1099511627798") ++ ended (codes "16 core 0 slice 0 0 fired 0 ran 4 quantum clock 1099511627802") ++ ended (codes "17 core 0 slice 0 0 fired 0 ran 4 quantum clock 1099511627806") ++ ended (codes "18 core 0 slice 0 0 fired 0 ran 4 quantum clock 1099511627810") ++ ended (codes "19 core 0 slice 0 0 fired 0 ran 4 quantum clock 1099511627814") ++ ended (codes "20 core 0 slice 0 0 fired 0 ran 4 quantum clock 1099511627818") ++ ended (codes "21 core 0 slice 0 0 fired 0 ran 4 quantum clock 1099511627822") ++ ended (codes "22 core 0 slice 0 0 fired 0 ran 4 quantum clock 1099511627826") ++ ended (codes "report") ++ ended (codes "core 0 on rr clock 1099511627826 home 0 share 0 used 18") ++ ended (codes "core 1 off clock 61763 used 0") ++ ended (codes "block 0 core 0 time 50 armed 0") ++ ended (codes "disp 0 0 ready place 6 due 0") ++ ended (codes "disp 0 1 wait crecv 0 place 4 due 4294967295") ++ ended (codes "disp 0 2 wait crecv 0 place 2 due 100") ++ ended (codes "ready 0 0") ++ ended (codes "cap 0 1 line 0 rights 7 parent -") ++ ended (codes "cap 0 3 ram 100 100 rights 7 parent -") ++ ended (codes "cap 0 4 signal 2 rights 7 parent -") ++ ended (codes "cap 0 8 signal 1 rights 7 parent -") ++ ended (codes "cap 0 10 port 0 rights 7 parent -") ++ ended (codes "cap 0 13 recvend 0 rights 7 parent -") ++ ended (codes "cap 0 14 frame 4 16 rights 7 parent -") ++ ended (codes "cap 0 17 frame 40 16 rights 7 parent -") ++ ended (codes "cap 0 20 ram 100 64 rights 7 parent -") ++ ended (codes "cap 0 22 port 0 rights 7 parent -") ++ ended (codes "cap 0 24 line 0 rights 7 parent -") ++ ended (codes "cap 0 27 signal 2 rights 7 parent -") ++ ended (codes "cap 0 30 signal 0 rights 7 parent -") ++ ended (codes "cap 0 31 recvend 0 rights 7 parent -") ++ ended (codes "cap 0 33 ram 0 1000 rights 7 parent -") ++ ended (codes "cap 0 35 signal 2 rights 7 parent -") ++ ended (codes "cap 0 41 signal 1 rights 7 parent -") ++ ended (codes "cap 0 42 line 0 rights 7 parent -") ++ ended (codes "cap 0 43 recvend 0 rights 7 parent -") ++ ended (codes "cap 0 44 port 0 rights 7 parent -") ++ ended (codes "cap 0 45 frame 466 16 rights 7 parent -") ++ ended (codes "signal 0 2 line 0 2") ++ ended (codes "block 1 rest time 0 armed 0") ++ ended (codes "disp 1 0 ready place 0 due 4294967295") ++ ended (codes "ready 1 0") ++ ended (codes "cap 1 2 sendend 0 rights 7 parent -") ++ ended (codes "cap 1 9 frame 40 8 rights 7 parent -") ++ ended (codes "cap 1 11 ram 100 3996 rights 7 parent -") ++ ended (codes "cap 1 14 line 1 rights 7 parent -") ++ ended (codes "channel 0 sent 0 taken 0") ++ ended (codes "line 0 to 0 2 route 0 raised 3 stray 0 pending 0 merged 1 latched 1 joined 0 delivered 1") ++ ended (codes "line 1 to - - route - raised 0 stray 0 pending 0 merged 0 latched 0 joined 0 delivered 0") ++ ended (codes "out 0 0") ++ ended (codes "out 0 0") ++ ended (codes "out 0 1") ++ ended (codes "skipped 17") ++ ended (codes "end")
+text = texts.lines (
+    "0 core 0 slice 0 0 fired 0 ran 3 call bind clock 1099511627780"
+    ∷ "1 core 0 slice 0 1 fired 0 ran 0 call out clock 1099511627781"
+    ∷ "2 core 0 slice 0 2 fired 0 ran 0 call bind clock 1099511627782"
+    ∷ "3 script 0 raise 0 1 pending"
+    ∷ "4 core 0 intake 0 1 0 2 latched"
+    ∷ "5 core 0 slice 0 0 fired 0 ran 0 call wait clock 1099511627783"
+    ∷ "6 core 0 slice 0 1 fired 0 ran 2 call out clock 1099511627786"
+    ∷ "7 core 0 slice 0 2 fired 0 ran 0 call yield clock 1099511627787"
+    ∷ "8 script 1 raise 0 2 pending"
+    ∷ "9 script 2 raise 0 3 coalesced"
+    ∷ "10 core 0 slice 0 0 fired 0 ran 0 call out clock 1099511627788"
+    ∷ "11 core 0 intake 0 2 0 2 latched"
+    ∷ "12 core 0 slice 0 1 fired 0 ran 0 hold crecv clock 1099511627789"
+    ∷ "13 core 0 slice 0 2 fired 0 ran 0 hold crecv clock 1099511627790"
+    ∷ "14 core 0 slice 0 0 fired 0 ran 4 quantum clock 1099511627794"
+    ∷ "15 core 0 slice 0 0 fired 0 ran 4 quantum clock 1099511627798"
+    ∷ "16 core 0 slice 0 0 fired 0 ran 4 quantum clock 1099511627802"
+    ∷ "17 core 0 slice 0 0 fired 0 ran 4 quantum clock 1099511627806"
+    ∷ "18 core 0 slice 0 0 fired 0 ran 4 quantum clock 1099511627810"
+    ∷ "19 core 0 slice 0 0 fired 0 ran 4 quantum clock 1099511627814"
+    ∷ "20 core 0 slice 0 0 fired 0 ran 4 quantum clock 1099511627818"
+    ∷ "21 core 0 slice 0 0 fired 0 ran 4 quantum clock 1099511627822"
+    ∷ "22 core 0 slice 0 0 fired 0 ran 4 quantum clock 1099511627826"
+    ∷ "report"
+    ∷ "core 0 on rr clock 1099511627826 home 0 share 0 used 18"
+    ∷ "core 1 off clock 61763 used 0"
+    ∷ "block 0 core 0 time 50 armed 0"
+    ∷ "disp 0 0 ready place 6 due 0"
+    ∷ "disp 0 1 wait crecv 0 place 4 due 4294967295"
+    ∷ "disp 0 2 wait crecv 0 place 2 due 100"
+    ∷ "ready 0 0"
+    ∷ "cap 0 1 line 0 rights 7 parent -"
+    ∷ "cap 0 3 ram 100 100 rights 7 parent -"
+    ∷ "cap 0 4 signal 2 rights 7 parent -"
+    ∷ "cap 0 8 signal 1 rights 7 parent -"
+    ∷ "cap 0 10 port 0 rights 7 parent -"
+    ∷ "cap 0 13 recvend 0 rights 7 parent -"
+    ∷ "cap 0 14 frame 4 16 rights 7 parent -"
+    ∷ "cap 0 17 frame 40 16 rights 7 parent -"
+    ∷ "cap 0 20 ram 100 64 rights 7 parent -"
+    ∷ "cap 0 22 port 0 rights 7 parent -"
+    ∷ "cap 0 24 line 0 rights 7 parent -"
+    ∷ "cap 0 27 signal 2 rights 7 parent -"
+    ∷ "cap 0 30 signal 0 rights 7 parent -"
+    ∷ "cap 0 31 recvend 0 rights 7 parent -"
+    ∷ "cap 0 33 ram 0 1000 rights 7 parent -"
+    ∷ "cap 0 35 signal 2 rights 7 parent -"
+    ∷ "cap 0 41 signal 1 rights 7 parent -"
+    ∷ "cap 0 42 line 0 rights 7 parent -"
+    ∷ "cap 0 43 recvend 0 rights 7 parent -"
+    ∷ "cap 0 44 port 0 rights 7 parent -"
+    ∷ "cap 0 45 frame 466 16 rights 7 parent -"
+    ∷ "signal 0 2 line 0 2"
+    ∷ "block 1 rest time 0 armed 0"
+    ∷ "disp 1 0 ready place 0 due 4294967295"
+    ∷ "ready 1 0"
+    ∷ "cap 1 2 sendend 0 rights 7 parent -"
+    ∷ "cap 1 9 frame 40 8 rights 7 parent -"
+    ∷ "cap 1 11 ram 100 3996 rights 7 parent -"
+    ∷ "cap 1 14 line 1 rights 7 parent -"
+    ∷ "channel 0 sent 0 taken 0"
+    ∷ "line 0 to 0 2 route 0 raised 3 stray 0 pending 0 merged 1 latched 1 joined 0 delivered 1"
+    ∷ "line 1 to - - route - raised 0 stray 0 pending 0 merged 0 latched 0 joined 0 delivered 0"
+    ∷ "out 0 0"
+    ∷ "out 0 0"
+    ∷ "out 0 1"
+    ∷ "skipped 17"
+    ∷ "end"
+    ∷ [])
 
 is_played : played image script schedule ≡ record {
   journal = journal;
   skipped = 17;
-  reasons = (Some rs.CoreOff ∷ Some rs.CoreOff ∷ Some rs.CoreOff ∷ Some rs.NoOrder ∷ Some (rs.RaisesFirst 1) ∷ Some (rs.RaisesFirst 1) ∷ Some rs.CoreOff ∷ Some rs.CoreOff ∷ Some (rs.RaisesFirst 3) ∷ Some rs.NoOrder ∷ Some rs.NoOrder ∷ Some (rs.RaisesFirst 3) ∷ Some rs.CoreOff ∷ Some rs.CoreOff ∷ Some rs.CoreOff ∷ Some (rs.RaisesFirst 3) ∷ Some rs.StillWaits ∷ []);
+  reasons =
+      Some why.CoreOff ∷ Some why.CoreOff ∷ Some why.CoreOff ∷ Some why.NoOrder ∷ Some (why.RaisesFirst 1) ∷ Some (why.RaisesFirst 1) ∷ Some why.CoreOff
+      ∷ Some why.CoreOff ∷ Some (why.RaisesFirst 3) ∷ Some why.NoOrder ∷ Some why.NoOrder ∷ Some (why.RaisesFirst 3) ∷ Some why.CoreOff ∷ Some why.CoreOff
+      ∷ Some why.CoreOff ∷ Some (why.RaisesFirst 3) ∷ Some why.StillWaits ∷ [];
   report = report;
   text = text;
   again = journal;
@@ -97,11 +328,16 @@ unfolding machine_of_blocks
 is_none_lost = refl
 
 -- the journal has told what the state shows
-is_told : option_map facts_told (run image script journal) ≡ option_map (facts_of (core_run image script schedule).state) (run image script journal)
+is_told : option_map facts_told (run image script journal)
+    ≡ option_map (facts_of (core_run image script schedule).state) (run image script journal)
 unfolding machine_with_cores machine_of_blocks
 is_told = refl
 
--- journals with a word changed, and the first bad entry of each
-are_changed : first_bads image script ((texts.slice 0 0 0 0 3 (end.Call op.Bind) 1099511627780 ∷ texts.slice 0 0 1 0 0 (end.Call op.Out) 1099511627781 ∷ texts.slice 0 0 2 0 0 (end.Call op.Bind) 1099511627782 ∷ texts.raised 0 0 (raise.Pended 1) ∷ texts.taken_in 0 0 1 0 2 how.Latched ∷ texts.slice 0 0 0 0 0 (end.Call op.Wait) 1099511627783 ∷ texts.slice 0 0 1 0 2 (end.Call op.Out) 1099511627786 ∷ texts.slice 0 0 2 0 0 (end.Call op.Yield) 1099511627787 ∷ texts.raised 1 0 (raise.Pended 2) ∷ texts.raised 2 0 (raise.Coalesced 3) ∷ texts.slice 0 0 0 0 0 (end.Call op.Out) 1099511627788 ∷ texts.taken_in 0 0 2 0 2 how.Latched ∷ texts.slice 0 0 1 0 0 (end.Hold op.Crecv) 1099511627789 ∷ texts.slice 0 0 2 0 0 (end.Hold op.Crecv) 1099511627790 ∷ texts.slice 0 0 0 0 4 end.Quantum 1099511627794 ∷ texts.slice 0 0 0 0 4 end.Quantum 1099511627798 ∷ texts.slice 0 0 0 0 4 end.Quantum 1099511627802 ∷ texts.slice 0 0 0 0 4 end.Quantum 1099511627806 ∷ texts.slice 0 0 0 0 4 end.Quantum 1099511627810 ∷ texts.slice 0 0 0 0 4 end.Quantum 1099511627814 ∷ texts.slice 0 0 0 0 4 end.Quantum 1099511627818 ∷ texts.slice 0 0 0 0 4 end.Quantum 1099511627822 ∷ texts.slice 0 0 0 0 4 end.Quantum 1099511627826 ∷ []) ∷ (texts.slice 0 0 0 0 3 (end.Call op.Bind) 1099511627780 ∷ texts.slice 0 0 1 0 0 (end.Call op.Out) 1099511627781 ∷ texts.slice 0 0 2 0 0 (end.Call op.Bind) 1099511627782 ∷ texts.raised 0 0 (raise.Pended 1) ∷ texts.taken_in 0 0 1 0 2 how.Latched ∷ texts.slice 0 0 0 0 0 (end.Call op.Wait) 1099511627783 ∷ texts.slice 0 0 1 0 2 (end.Call op.Out) 1099511627786 ∷ texts.slice 0 0 2 0 0 (end.Call op.Yield) 1099511627787 ∷ texts.raised 1 1 (raise.Pended 2) ∷ texts.raised 2 0 (raise.Coalesced 3) ∷ texts.slice 0 0 0 0 0 (end.Call op.Out) 1099511627788 ∷ texts.taken_in 0 0 2 0 2 how.Latched ∷ texts.slice 0 0 1 0 0 (end.Hold op.Crecv) 1099511627789 ∷ texts.slice 0 0 2 0 0 (end.Hold op.Crecv) 1099511627790 ∷ texts.slice 0 0 0 0 4 end.Quantum 1099511627794 ∷ texts.slice 0 0 0 0 4 end.Quantum 1099511627798 ∷ texts.slice 0 0 0 0 4 end.Quantum 1099511627802 ∷ texts.slice 0 0 0 0 4 end.Quantum 1099511627806 ∷ texts.slice 0 0 0 0 4 end.Quantum 1099511627810 ∷ texts.slice 0 0 0 0 4 end.Quantum 1099511627814 ∷ texts.slice 0 0 0 0 4 end.Quantum 1099511627818 ∷ texts.slice 0 0 0 0 4 end.Quantum 1099511627822 ∷ texts.slice 0 0 0 0 4 end.Quantum 1099511627826 ∷ []) ∷ (texts.slice 0 0 0 0 3 (end.Call op.Bind) 1099511627780 ∷ texts.slice 0 0 1 0 0 (end.Call op.Out) 1099511627781 ∷ texts.slice 0 0 2 0 0 (end.Call op.Bind) 1099511627782 ∷ texts.raised 0 0 (raise.Pended 1) ∷ texts.taken_in 0 0 1 0 2 how.Latched ∷ texts.slice 0 0 0 0 0 (end.Call op.Wait) 1099511627783 ∷ texts.slice 0 0 1 0 2 (end.Call op.Out) 1099511627786 ∷ texts.slice 0 0 2 0 0 (end.Call op.Yield) 1099511627787 ∷ texts.raised 3 0 (raise.Pended 2) ∷ texts.raised 2 0 (raise.Coalesced 3) ∷ texts.slice 0 0 0 0 0 (end.Call op.Out) 1099511627788 ∷ texts.taken_in 0 0 2 0 2 how.Latched ∷ texts.slice 0 0 1 0 0 (end.Hold op.Crecv) 1099511627789 ∷ texts.slice 0 0 2 0 0 (end.Hold op.Crecv) 1099511627790 ∷ texts.slice 0 0 0 0 4 end.Quantum 1099511627794 ∷ texts.slice 0 0 0 0 4 end.Quantum 1099511627798 ∷ texts.slice 0 0 0 0 4 end.Quantum 1099511627802 ∷ texts.slice 0 0 0 0 4 end.Quantum 1099511627806 ∷ texts.slice 0 0 0 0 4 end.Quantum 1099511627810 ∷ texts.slice 0 0 0 0 4 end.Quantum 1099511627814 ∷ texts.slice 0 0 0 0 4 end.Quantum 1099511627818 ∷ texts.slice 0 0 0 0 4 end.Quantum 1099511627822 ∷ texts.slice 0 0 0 0 4 end.Quantum 1099511627826 ∷ []) ∷ []) ≡ None ∷ Some 8 ∷ Some 8 ∷ []
+-- journals that are changed, and the first bad entry of each
+are_changed : first_bads image script (
+    with_line 8 (texts.raised 1 1 (order.pending 2)) journal
+    ∷ with_line 8 (texts.raised 3 0 (order.pending 2)) journal
+    ∷ [])
+    ≡ Some 8 ∷ Some 8 ∷ []
 unfolding machine_of_blocks
 are_changed = refl

@@ -1,13 +1,8 @@
 -- A random machine, of seed 20015.
-use Rattle.std.specs.Prelude.{◌≡◌, ℕ, List, [], ◌∷◌, ◌++◌, codes, refl, true, Some, None}
+-- Made by tools/worked_examples.py from examples/RandomMachine08.
+use Rattle.std.specs.Prelude.{◌≡◌, ℕ, List, [], ◌∷◌, refl, true, None, Some}
 use Rattle.std.specs.Option.{option_map}
-use Rattle.dc_rows.specs.Facts.{facts_told, facts_of}
-use Rattle.dc_rows.specs.Tabled.{tabled}
-use Rattle.dc_rows.specs.Computed.{machine_of_blocks, machine_with_cores, whole_texts}
-use Rattle.dc_base.specs.Runs.{run}
-use Rattle.dc_base.specs.CoreRuns.{core_run}
 use Rattle.dc_base.specs.declared.images.Image.{Image}
-use Rattle.dc_base.specs.declared.capabilities.CapKind.TheVariants as kind
 use Rattle.dc_base.specs.declared.kernels.Version.TheVariants.{Rr, Edf}
 use Rattle.dc_base.specs.declared.kernels.Clocks.TheVariants.{Kept}
 use Rattle.dc_base.specs.declared.actions.Actor.{Actor}
@@ -15,20 +10,24 @@ use Rattle.dc_base.specs.declared.actions.Action.{Action}
 use Rattle.dc_base.specs.declared.calls.Op.TheVariants as op
 use Rattle.dc_base.specs.declared.calls.End.TheVariants as end
 use Rattle.dc_base.specs.declared.commands.ScriptLine.{ScriptLine}
-use Rattle.dc_base.specs.declared.commands.ScriptLine.TheVariants as lines
-use Rattle.dc_base.specs.declared.commands.Command.TheVariants as command
-use Rattle.dc_base.specs.declared.commands.Order.TheVariants as order
 use Rattle.dc_base.specs.declared.entries.Entry.{Entry}
-use Rattle.dc_rows.specs.Texts as texts
+use Rattle.dc_base.specs.declared.entries.Reason.TheVariants as why
 use Rattle.dc_base.specs.declared.reports.ReportLine.{ReportLine}
-use Rattle.dc_base.specs.declared.reports.ReportLine.TheVariants as rl
-use Rattle.dc_base.specs.declared.dispatchers.DispState.TheVariants as ds
-use Rattle.dc_base.specs.declared.dispatchers.Wait.TheVariants as wt
-use Rattle.dc_base.specs.declared.entries.Reason.TheVariants as rs
-use Rattle.dc_rows.specs.Played.{played, judged, first_bads}
-use Rattle.dc_base.specs.TextWords.{ended}
+use Rattle.dc_base.specs.declared.dispatchers.DispState.TheVariants as state
+use Rattle.dc_base.specs.Runs.{run}
+use Rattle.dc_base.specs.CoreRuns.{core_run}
 use Rattle.dc_base.specs.Shown.{all_shown_by}
 use Rattle.dc_base.specs.Headline.{blocks_reported, blocks_held}
+use Rattle.dc_rows.specs.Computed.{machine_of_blocks, machine_with_cores, whole_texts}
+use Rattle.dc_rows.specs.Facts.{facts_told, facts_of}
+use Rattle.dc_rows.specs.Images as image_of
+use Rattle.dc_rows.specs.Orders as order
+use Rattle.dc_rows.specs.Played.{played, judged, first_bads}
+use Rattle.dc_rows.specs.Reports as report_line
+use Rattle.dc_rows.specs.Scripts as script_line
+use Rattle.dc_rows.specs.Tabled.{tabled}
+use Rattle.dc_rows.specs.Texts as texts
+use Rattle.dc_rows.specs.WrongJournals.{with_line, without_line}
 
 abbrev image : Image
 image = record {
@@ -37,42 +36,474 @@ image = record {
   quantum = 64;
   slices = 2000;
   lines = 4;
-  cores = (record { base = 0; version = Some Rr } ∷ record { base = 0; version = Some Edf } ∷ record { base = 4611686018427387903; version = Some Edf } ∷ []);
-  blocks = (record {
-    home = Some (record { 0 = 0 });
-    memory = [];
-    ports = 3;
-    signals = 2;
-    disps = (record { code = (754647040 ∷ 770637824 ∷ 619184128 ∷ 20971520 ∷ 22020097 ∷ 553648128 ∷ 71630848 ∷ 19922946 ∷ 239271941 ∷ 604504066 ∷ 619184130 ∷ 251658243 ∷ []); period = 1; due = 0; caps = (record { slot = 8; cap = record { kind = kind.Frame 0 8; rights = 7 } } ∷ record { slot = 6; cap = record { kind = kind.Signal (record { 0 = 0 }); rights = 7 } } ∷ record { slot = 15; cap = record { kind = kind.Line (record { 0 = 0 }); rights = 7 } } ∷ record { slot = 14; cap = record { kind = kind.SendEnd (record { 0 = 1 }); rights = 7 } } ∷ record { slot = 9; cap = record { kind = kind.Frame 3528 8; rights = 7 } } ∷ record { slot = 1; cap = record { kind = kind.Ram 2942 1000; rights = 7 } } ∷ record { slot = 7; cap = record { kind = kind.Port (record { 0 = 0 }); rights = 7 } } ∷ record { slot = 12; cap = record { kind = kind.Port (record { 0 = 1 }); rights = 7 } } ∷ record { slot = 5; cap = record { kind = kind.Signal (record { 0 = 0 }); rights = 0 } } ∷ record { slot = 11; cap = record { kind = kind.Signal (record { 0 = 1 }); rights = 7 } } ∷ record { slot = 0; cap = record { kind = kind.SendEnd (record { 0 = 0 }); rights = 7 } } ∷ record { slot = 3; cap = record { kind = kind.SendEnd (record { 0 = 1 }); rights = 7 } } ∷ []) } ∷ record { code = (22020096 ∷ 285540352 ∷ 571932672 ∷ 251658240 ∷ []); period = 1; due = 0; caps = (record { slot = 7; cap = record { kind = kind.Frame 0 3; rights = 7 } } ∷ record { slot = 1; cap = record { kind = kind.Port (record { 0 = 0 }); rights = 7 } } ∷ record { slot = 2; cap = record { kind = kind.Port (record { 0 = 1 }); rights = 1 } } ∷ record { slot = 4; cap = record { kind = kind.Port (record { 0 = 2 }); rights = 7 } } ∷ record { slot = 0; cap = record { kind = kind.Signal (record { 0 = 0 }); rights = 7 } } ∷ record { slot = 12; cap = record { kind = kind.Signal (record { 0 = 1 }); rights = 7 } } ∷ record { slot = 6; cap = record { kind = kind.SendEnd (record { 0 = 0 }); rights = 7 } } ∷ record { slot = 11; cap = record { kind = kind.SendEnd (record { 0 = 1 }); rights = 7 } } ∷ record { slot = 9; cap = record { kind = kind.SendEnd (record { 0 = 4 }); rights = 2 } } ∷ record { slot = 10; cap = record { kind = kind.SendEnd (record { 0 = 5 }); rights = 7 } } ∷ record { slot = 8; cap = record { kind = kind.RecvEnd (record { 0 = 2 }); rights = 7 } } ∷ record { slot = 13; cap = record { kind = kind.RecvEnd (record { 0 = 3 }); rights = 7 } } ∷ []) } ∷ record { code = (204603395 ∷ 104136704 ∷ 119865344 ∷ 612171776 ∷ 18874368 ∷ 286392320 ∷ 614858752 ∷ 251658240 ∷ []); period = 1; due = 2; caps = (record { slot = 13; cap = record { kind = kind.Frame 16 4; rights = 7 } } ∷ record { slot = 5; cap = record { kind = kind.Ram 0 4096; rights = 7 } } ∷ record { slot = 8; cap = record { kind = kind.Port (record { 0 = 0 }); rights = 6 } } ∷ record { slot = 1; cap = record { kind = kind.Port (record { 0 = 1 }); rights = 7 } } ∷ record { slot = 3; cap = record { kind = kind.Port (record { 0 = 2 }); rights = 7 } } ∷ record { slot = 15; cap = record { kind = kind.Signal (record { 0 = 0 }); rights = 7 } } ∷ record { slot = 12; cap = record { kind = kind.Signal (record { 0 = 1 }); rights = 7 } } ∷ record { slot = 2; cap = record { kind = kind.SendEnd (record { 0 = 1 }); rights = 7 } } ∷ record { slot = 10; cap = record { kind = kind.SendEnd (record { 0 = 4 }); rights = 7 } } ∷ record { slot = 9; cap = record { kind = kind.SendEnd (record { 0 = 5 }); rights = 7 } } ∷ record { slot = 7; cap = record { kind = kind.SendEnd (record { 0 = 7 }); rights = 7 } } ∷ record { slot = 11; cap = record { kind = kind.RecvEnd (record { 0 = 2 }); rights = 7 } } ∷ []) } ∷ []);
-  } ∷ record {
-    home = Some (record { 0 = 2 });
-    memory = [];
-    ports = 1;
-    signals = 2;
-    disps = (record { code = (22020098 ∷ 636878848 ∷ 788398080 ∷ 753729536 ∷ 651362304 ∷ 540016640 ∷ 756940800 ∷ 53608448 ∷ 68222976 ∷ 139591680 ∷ 593887234 ∷ 335544320 ∷ []); period = 1; due = 5; caps = (record { slot = 6; cap = record { kind = kind.Frame 0 8; rights = 7 } } ∷ record { slot = 5; cap = record { kind = kind.Signal (record { 0 = 0 }); rights = 7 } } ∷ record { slot = 15; cap = record { kind = kind.RecvEnd (record { 0 = 1 }); rights = 7 } } ∷ record { slot = 0; cap = record { kind = kind.Frame 0 4; rights = 7 } } ∷ record { slot = 2; cap = record { kind = kind.Ram 776 100; rights = 7 } } ∷ record { slot = 11; cap = record { kind = kind.Port (record { 0 = 0 }); rights = 7 } } ∷ record { slot = 10; cap = record { kind = kind.Signal (record { 0 = 0 }); rights = 7 } } ∷ record { slot = 13; cap = record { kind = kind.Signal (record { 0 = 1 }); rights = 7 } } ∷ record { slot = 1; cap = record { kind = kind.SendEnd (record { 0 = 3 }); rights = 7 } } ∷ record { slot = 9; cap = record { kind = kind.RecvEnd (record { 0 = 0 }); rights = 7 } } ∷ record { slot = 4; cap = record { kind = kind.RecvEnd (record { 0 = 1 }); rights = 7 } } ∷ record { slot = 7; cap = record { kind = kind.RecvEnd (record { 0 = 4 }); rights = 7 } } ∷ []) } ∷ record { code = (153354240 ∷ 318767104 ∷ 184614912 ∷ 17825825 ∷ 17825800 ∷ 287375361 ∷ 614400009 ∷ 683147264 ∷ 19922945 ∷ 285409280 ∷ []); period = 2; due = 0; caps = (record { slot = 15; cap = record { kind = kind.Frame 8 16; rights = 7 } } ∷ record { slot = 10; cap = record { kind = kind.Ram 100 64; rights = 7 } } ∷ record { slot = 4; cap = record { kind = kind.Port (record { 0 = 0 }); rights = 7 } } ∷ record { slot = 13; cap = record { kind = kind.Signal (record { 0 = 1 }); rights = 7 } } ∷ record { slot = 11; cap = record { kind = kind.SendEnd (record { 0 = 2 }); rights = 4 } } ∷ record { slot = 9; cap = record { kind = kind.SendEnd (record { 0 = 3 }); rights = 7 } } ∷ record { slot = 6; cap = record { kind = kind.SendEnd (record { 0 = 6 }); rights = 7 } } ∷ record { slot = 14; cap = record { kind = kind.RecvEnd (record { 0 = 0 }); rights = 7 } } ∷ record { slot = 7; cap = record { kind = kind.RecvEnd (record { 0 = 1 }); rights = 7 } } ∷ record { slot = 12; cap = record { kind = kind.RecvEnd (record { 0 = 5 }); rights = 7 } } ∷ record { slot = 3; cap = record { kind = kind.Line (record { 0 = 3 }); rights = 7 } } ∷ []) } ∷ record { code = (16777217 ∷ 22020596 ∷ 745603072 ∷ 638713856 ∷ 538968064 ∷ 629800971 ∷ 16777248 ∷ 185729024 ∷ 86114304 ∷ 625606662 ∷ []); period = 2; due = 2; caps = (record { slot = 3; cap = record { kind = kind.Frame 40 16; rights = 7 } } ∷ record { slot = 10; cap = record { kind = kind.Frame 16 16; rights = 7 } } ∷ record { slot = 15; cap = record { kind = kind.Port (record { 0 = 0 }); rights = 7 } } ∷ record { slot = 9; cap = record { kind = kind.Signal (record { 0 = 0 }); rights = 7 } } ∷ record { slot = 1; cap = record { kind = kind.Signal (record { 0 = 1 }); rights = 7 } } ∷ record { slot = 11; cap = record { kind = kind.SendEnd (record { 0 = 2 }); rights = 7 } } ∷ record { slot = 2; cap = record { kind = kind.SendEnd (record { 0 = 3 }); rights = 7 } } ∷ record { slot = 13; cap = record { kind = kind.SendEnd (record { 0 = 6 }); rights = 7 } } ∷ record { slot = 0; cap = record { kind = kind.RecvEnd (record { 0 = 1 }); rights = 7 } } ∷ record { slot = 4; cap = record { kind = kind.RecvEnd (record { 0 = 5 }); rights = 7 } } ∷ record { slot = 8; cap = record { kind = kind.RecvEnd (record { 0 = 7 }); rights = 7 } } ∷ record { slot = 7; cap = record { kind = kind.Line (record { 0 = 1 }); rights = 7 } } ∷ []) } ∷ record { code = (17825794 ∷ 742850560 ∷ 635305986 ∷ 33554465 ∷ 680919091 ∷ 730857472 ∷ 251658242 ∷ []); period = 2; due = 0; caps = (record { slot = 14; cap = record { kind = kind.Frame 4 8; rights = 7 } } ∷ record { slot = 8; cap = record { kind = kind.Port (record { 0 = 0 }); rights = 7 } } ∷ record { slot = 7; cap = record { kind = kind.Signal (record { 0 = 0 }); rights = 7 } } ∷ record { slot = 2; cap = record { kind = kind.SendEnd (record { 0 = 3 }); rights = 7 } } ∷ record { slot = 5; cap = record { kind = kind.SendEnd (record { 0 = 6 }); rights = 7 } } ∷ record { slot = 15; cap = record { kind = kind.RecvEnd (record { 0 = 0 }); rights = 7 } } ∷ record { slot = 1; cap = record { kind = kind.RecvEnd (record { 0 = 1 }); rights = 7 } } ∷ record { slot = 9; cap = record { kind = kind.RecvEnd (record { 0 = 4 }); rights = 7 } } ∷ record { slot = 13; cap = record { kind = kind.RecvEnd (record { 0 = 7 }); rights = 7 } } ∷ record { slot = 3; cap = record { kind = kind.Line (record { 0 = 1 }); rights = 7 } } ∷ record { slot = 4; cap = record { kind = kind.Line (record { 0 = 3 }); rights = 7 } } ∷ []) } ∷ []);
-  } ∷ []);
-  channels = (record { from = (record { 0 = 0 }); to = (record { 0 = 1 }); capacity = 1 } ∷ record { from = (record { 0 = 0 }); to = (record { 0 = 1 }); capacity = 4 } ∷ record { from = (record { 0 = 1 }); to = (record { 0 = 0 }); capacity = 1 } ∷ record { from = (record { 0 = 1 }); to = (record { 0 = 0 }); capacity = 3 } ∷ record { from = (record { 0 = 0 }); to = (record { 0 = 1 }); capacity = 2 } ∷ record { from = (record { 0 = 0 }); to = (record { 0 = 1 }); capacity = 3 } ∷ record { from = (record { 0 = 1 }); to = (record { 0 = 0 }); capacity = 1 } ∷ record { from = (record { 0 = 0 }); to = (record { 0 = 1 }); capacity = 1 } ∷ []);
+  cores =
+      image_of.core 0 Rr ∷ image_of.core 0 Edf ∷ image_of.core 4611686018427387903 Edf ∷ [];
+  blocks =
+      record {
+        home = image_of.home 0;
+        memory = [];
+        ports = 3;
+        signals = 2;
+        disps =
+            record {
+              code =
+                  754647040  -- bind s15 s11
+                  ∷ 770637824  -- give s14 s15
+                  ∷ 619184128  -- csend s14 s8 0
+                  ∷ 20971520  -- li r4 0
+                  ∷ 22020097  -- li r5 1
+                  ∷ 553648128  -- yield
+                  ∷ 71630848  -- add r4 r5
+                  ∷ 19922946  -- li r3 2
+                  ∷ 239271941  -- bltu r4 r3 5
+                  ∷ 604504066  -- csend s0 s8 2
+                  ∷ 619184130  -- csend s14 s8 2
+                  ∷ 251658243  -- jmp 3
+                  ∷ [];
+              period = 1;
+              due = 0;
+              caps =
+                  image_of.cap 8 (image_of.frame 0 8) 7 ∷ image_of.cap 6 (image_of.signal 0) 7 ∷ image_of.cap 15 (image_of.line 0) 7
+                  ∷ image_of.cap 14 (image_of.sendend 1) 7 ∷ image_of.cap 9 (image_of.frame 3528 8) 7 ∷ image_of.cap 1 (image_of.ram 2942 1000) 7
+                  ∷ image_of.cap 7 (image_of.port 0) 7 ∷ image_of.cap 12 (image_of.port 1) 7 ∷ image_of.cap 5 (image_of.signal 0) 0
+                  ∷ image_of.cap 11 (image_of.signal 1) 7 ∷ image_of.cap 0 (image_of.sendend 0) 7 ∷ image_of.cap 3 (image_of.sendend 1) 7 ∷ [];
+            }
+            ∷ record {
+              code =
+                  22020096  -- li r5 0
+                  ∷ 285540352  -- st r0 r5 0
+                  ∷ 571932672  -- send s1 s7 0
+                  ∷ 251658240  -- jmp 0
+                  ∷ [];
+              period = 1;
+              due = 0;
+              caps =
+                  image_of.cap 7 (image_of.frame 0 3) 7 ∷ image_of.cap 1 (image_of.port 0) 7 ∷ image_of.cap 2 (image_of.port 1) 1
+                  ∷ image_of.cap 4 (image_of.port 2) 7 ∷ image_of.cap 0 (image_of.signal 0) 7 ∷ image_of.cap 12 (image_of.signal 1) 7
+                  ∷ image_of.cap 6 (image_of.sendend 0) 7 ∷ image_of.cap 11 (image_of.sendend 1) 7 ∷ image_of.cap 9 (image_of.sendend 4) 2
+                  ∷ image_of.cap 10 (image_of.sendend 5) 7 ∷ image_of.cap 8 (image_of.recvend 2) 7 ∷ image_of.cap 13 (image_of.recvend 3) 7 ∷ [];
+            }
+            ∷ record {
+              code =
+                  204603395  -- beq r3 r2 3
+                  ∷ 104136704  -- mul r3 r5
+                  ∷ 119865344  -- and r2 r5
+                  ∷ 612171776  -- csend s7 s13 0
+                  ∷ 18874368  -- li r2 0
+                  ∷ 286392320  -- st r1 r2 0
+                  ∷ 614858752  -- csend s10 s6 0
+                  ∷ 251658240  -- jmp 0
+                  ∷ [];
+              period = 1;
+              due = 2;
+              caps =
+                  image_of.cap 13 (image_of.frame 16 4) 7 ∷ image_of.cap 5 (image_of.ram 0 4096) 7 ∷ image_of.cap 8 (image_of.port 0) 6
+                  ∷ image_of.cap 1 (image_of.port 1) 7 ∷ image_of.cap 3 (image_of.port 2) 7 ∷ image_of.cap 15 (image_of.signal 0) 7
+                  ∷ image_of.cap 12 (image_of.signal 1) 7 ∷ image_of.cap 2 (image_of.sendend 1) 7 ∷ image_of.cap 10 (image_of.sendend 4) 7
+                  ∷ image_of.cap 9 (image_of.sendend 5) 7 ∷ image_of.cap 7 (image_of.sendend 7) 7 ∷ image_of.cap 11 (image_of.recvend 2) 7 ∷ [];
+            }
+            ∷ [];
+      }
+      ∷ record {
+        home = image_of.home 2;
+        memory = [];
+        ports = 1;
+        signals = 2;
+        disps =
+            record {
+              code =
+                  22020098  -- li r5 2
+                  ∷ 636878848  -- crecv s15 s6 0
+                  ∷ 788398080  -- claim s15 s14 0
+                  ∷ 753729536  -- bind s14 s13
+                  ∷ 651362304  -- wait s13 r3
+                  ∷ 540016640  -- out r3
+                  ∷ 756940800  -- give s1 s14
+                  ∷ 53608448  -- mov r3 r2
+                  ∷ 68222976  -- add r1 r1
+                  ∷ 139591680  -- or r5 r2
+                  ∷ 593887234  -- recv s6 s6 2
+                  ∷ 335544320  -- halt
+                  ∷ [];
+              period = 1;
+              due = 5;
+              caps =
+                  image_of.cap 6 (image_of.frame 0 8) 7 ∷ image_of.cap 5 (image_of.signal 0) 7 ∷ image_of.cap 15 (image_of.recvend 1) 7
+                  ∷ image_of.cap 0 (image_of.frame 0 4) 7 ∷ image_of.cap 2 (image_of.ram 776 100) 7 ∷ image_of.cap 11 (image_of.port 0) 7
+                  ∷ image_of.cap 10 (image_of.signal 0) 7 ∷ image_of.cap 13 (image_of.signal 1) 7 ∷ image_of.cap 1 (image_of.sendend 3) 7
+                  ∷ image_of.cap 9 (image_of.recvend 0) 7 ∷ image_of.cap 4 (image_of.recvend 1) 7 ∷ image_of.cap 7 (image_of.recvend 4) 7 ∷ [];
+            }
+            ∷ record {
+              code =
+                  153354240  -- xor r2 r4
+                  ∷ 318767104  -- nop
+                  ∷ 184614912  -- shr r0 r1
+                  ∷ 17825825  -- li r1 33
+                  ∷ 17825800  -- li r1 8
+                  ∷ 287375361  -- st r2 r1 1
+                  ∷ 614400009  -- csend s9 s15 9
+                  ∷ 683147264  -- copy s11 s8 0
+                  ∷ 19922945  -- li r3 1
+                  ∷ 285409280  -- st r0 r3 0
+                  ∷ [];
+              period = 2;
+              due = 0;
+              caps =
+                  image_of.cap 15 (image_of.frame 8 16) 7 ∷ image_of.cap 10 (image_of.ram 100 64) 7 ∷ image_of.cap 4 (image_of.port 0) 7
+                  ∷ image_of.cap 13 (image_of.signal 1) 7 ∷ image_of.cap 11 (image_of.sendend 2) 4 ∷ image_of.cap 9 (image_of.sendend 3) 7
+                  ∷ image_of.cap 6 (image_of.sendend 6) 7 ∷ image_of.cap 14 (image_of.recvend 0) 7 ∷ image_of.cap 7 (image_of.recvend 1) 7
+                  ∷ image_of.cap 12 (image_of.recvend 5) 7 ∷ image_of.cap 3 (image_of.line 3) 7 ∷ [];
+            }
+            ∷ record {
+              code =
+                  16777217  -- li r0 1
+                  ∷ 22020596  -- li r5 500
+                  ∷ 745603072  -- bind s7 s1
+                  ∷ 638713856  -- wait s1 r2
+                  ∷ 538968064  -- out r2
+                  ∷ 629800971  -- crecv s8 s10 11
+                  ∷ 16777248  -- li r0 32
+                  ∷ 185729024  -- shr r1 r2
+                  ∷ 86114304  -- sub r2 r2
+                  ∷ 625606662  -- crecv s4 s10 6
+                  ∷ [];
+              period = 2;
+              due = 2;
+              caps =
+                  image_of.cap 3 (image_of.frame 40 16) 7 ∷ image_of.cap 10 (image_of.frame 16 16) 7 ∷ image_of.cap 15 (image_of.port 0) 7
+                  ∷ image_of.cap 9 (image_of.signal 0) 7 ∷ image_of.cap 1 (image_of.signal 1) 7 ∷ image_of.cap 11 (image_of.sendend 2) 7
+                  ∷ image_of.cap 2 (image_of.sendend 3) 7 ∷ image_of.cap 13 (image_of.sendend 6) 7 ∷ image_of.cap 0 (image_of.recvend 1) 7
+                  ∷ image_of.cap 4 (image_of.recvend 5) 7 ∷ image_of.cap 8 (image_of.recvend 7) 7 ∷ image_of.cap 7 (image_of.line 1) 7 ∷ [];
+            }
+            ∷ record {
+              code =
+                  17825794  -- li r1 2
+                  ∷ 742850560  -- bind s4 s7
+                  ∷ 635305986  -- crecv s13 s14 2
+                  ∷ 33554465  -- lih r0 33
+                  ∷ 680919091  -- copy s9 s6 51
+                  ∷ 730857472  -- revoke s9
+                  ∷ 251658242  -- jmp 2
+                  ∷ [];
+              period = 2;
+              due = 0;
+              caps =
+                  image_of.cap 14 (image_of.frame 4 8) 7 ∷ image_of.cap 8 (image_of.port 0) 7 ∷ image_of.cap 7 (image_of.signal 0) 7
+                  ∷ image_of.cap 2 (image_of.sendend 3) 7 ∷ image_of.cap 5 (image_of.sendend 6) 7 ∷ image_of.cap 15 (image_of.recvend 0) 7
+                  ∷ image_of.cap 1 (image_of.recvend 1) 7 ∷ image_of.cap 9 (image_of.recvend 4) 7 ∷ image_of.cap 13 (image_of.recvend 7) 7
+                  ∷ image_of.cap 3 (image_of.line 1) 7 ∷ image_of.cap 4 (image_of.line 3) 7 ∷ [];
+            }
+            ∷ [];
+      }
+      ∷ [];
+  channels =
+      image_of.channel 0 1 1 ∷ image_of.channel 0 1 4 ∷ image_of.channel 1 0 1 ∷ image_of.channel 1 0 3 ∷ image_of.channel 0 1 2 ∷ image_of.channel 0 1 3
+      ∷ image_of.channel 1 0 1 ∷ image_of.channel 0 1 1 ∷ [];
 }
 
 abbrev script : List ScriptLine
-script = (lines.Boot (command.Stop (record { 0 = 0 })) ∷ lines.Await (record { 0 = 0 }) 0 3 ∷ lines.Raise (record { 0 = 0 }) ∷ lines.Boot (command.Park (record { 0 = 1 }) (record { 0 = 1 })) ∷ lines.Raise (record { 0 = 0 }) ∷ lines.Raise (record { 0 = 3 }) ∷ lines.Boot (command.Start (record { 0 = 0 }) Edf) ∷ lines.Boot (command.Move (record { 0 = 0 }) (record { 0 = 2 })) ∷ lines.Raise (record { 0 = 0 }) ∷ lines.Boot (command.Attach (record { 0 = 0 }) (record { 0 = 0 })) ∷ lines.Boot (command.Park (record { 0 = 0 }) (record { 0 = 2 })) ∷ lines.Boot (command.Unpark (record { 0 = 0 }) (record { 0 = 1 })) ∷ lines.Boot (command.Unpark (record { 0 = 1 }) (record { 0 = 2 })) ∷ lines.Boot (command.Replace (record { 0 = 0 }) Rr) ∷ lines.Raise (record { 0 = 3 }) ∷ lines.Boot (command.Stop (record { 0 = 1 })) ∷ [])
+script =
+    script_line.stop 0 ∷ script_line.await 0 0 3 ∷ script_line.raise 0 ∷ script_line.park 1 1 ∷ script_line.raise 0 ∷ script_line.raise 3
+    ∷ script_line.start 0 Edf ∷ script_line.move 0 2 ∷ script_line.raise 0 ∷ script_line.attach 0 0 ∷ script_line.park 0 2 ∷ script_line.unpark 0 1
+    ∷ script_line.unpark 1 2 ∷ script_line.replace 0 Rr ∷ script_line.raise 3 ∷ script_line.stop 1 ∷ []
 
 abbrev schedule : List (Actor × Action)
-schedule = (texts.order 2 ∷ texts.intake 0 3 ∷ texts.step 0 ∷ texts.order 1 ∷ texts.step 2 ∷ texts.step 2 ∷ texts.step 0 ∷ texts.intake 2 3 ∷ texts.step 2 ∷ texts.step 2 ∷ texts.wake 1 1 1 ∷ texts.step 0 ∷ texts.step 1 ∷ texts.step 2 ∷ texts.step 0 ∷ texts.script ∷ texts.step 2 ∷ texts.step 0 ∷ texts.script ∷ texts.script ∷ texts.script ∷ texts.step 2 ∷ texts.script ∷ texts.step 0 ∷ texts.order 0 ∷ texts.order 1 ∷ texts.order 2 ∷ texts.script ∷ texts.step 2 ∷ texts.step 2 ∷ texts.wake 0 0 0 ∷ texts.script ∷ texts.step 2 ∷ texts.script ∷ texts.script ∷ texts.step 2 ∷ texts.step 1 ∷ texts.wake 0 1 3 ∷ texts.step 2 ∷ texts.step 2 ∷ [])
+schedule =
+    texts.order 2 ∷ texts.intake 0 3 ∷ texts.step 0 ∷ texts.order 1 ∷ texts.step 2 ∷ texts.step 2 ∷ texts.step 0 ∷ texts.intake 2 3 ∷ texts.step 2
+    ∷ texts.step 2 ∷ texts.wake 1 1 1 ∷ texts.step 0 ∷ texts.step 1 ∷ texts.step 2 ∷ texts.step 0 ∷ texts.script ∷ texts.step 2 ∷ texts.step 0
+    ∷ texts.script ∷ texts.script ∷ texts.script ∷ texts.step 2 ∷ texts.script ∷ texts.step 0 ∷ texts.order 0 ∷ texts.order 1 ∷ texts.order 2 ∷ texts.script
+    ∷ texts.step 2 ∷ texts.step 2 ∷ texts.wake 0 0 0 ∷ texts.script ∷ texts.step 2 ∷ texts.script ∷ texts.script ∷ texts.step 2 ∷ texts.step 1
+    ∷ texts.wake 0 1 3 ∷ texts.step 2 ∷ texts.step 2 ∷ []
 
 abbrev journal : List Entry
-journal = (texts.slice 0 0 0 0 0 (end.Call op.Bind) 1 ∷ texts.slice 2 1 1 0 6 (end.Call op.Csend) 4611686018427387910 ∷ texts.slice 2 1 3 0 1 (end.Call op.Bind) 4611686018427387912 ∷ texts.slice 0 0 1 0 2 (end.Trap 8) 3 ∷ texts.slice 2 1 1 0 0 (end.Call op.Copy) 4611686018427387913 ∷ texts.slice 2 1 2 0 2 (end.Call op.Bind) 4611686018427387916 ∷ texts.slice 0 0 2 0 1 (end.Call op.Csend) 5 ∷ texts.slice 2 1 3 0 0 (end.Call op.Crecv) 4611686018427387917 ∷ texts.slice 0 0 0 0 0 (end.Call op.Give) 6 ∷ texts.post 0 0 order.Stop ∷ texts.slice 2 1 1 0 2 (end.Trap 2) 4611686018427387919 ∷ texts.slice 0 0 2 0 2 (end.Trap 4) 8 ∷ texts.slice 2 1 2 0 0 (end.Hold op.Wait) 4611686018427387920 ∷ texts.slice 0 0 0 0 0 (end.Call op.Csend) 9 ∷ texts.stop 0 1 ∷ texts.done 0 ∷ texts.slice 2 1 3 0 1 (end.Call op.Copy) 4611686018427387922 ∷ texts.slice 2 1 0 0 1 (end.Call op.Crecv) 4611686018427387924 ∷ texts.met 1 0 0 ∷ texts.slice 2 1 0 0 0 (end.Call op.Claim) 4611686018427387925 ∷ texts.slice 2 1 3 0 0 (end.Call op.Revoke) 4611686018427387926 ∷ texts.slice 2 1 0 0 0 (end.Call op.Bind) 4611686018427387927 ∷ texts.slice 2 1 0 0 0 (end.Hold op.Wait) 4611686018427387928 ∷ [])
+journal =
+    texts.slice 0 0 0 0 0 (end.Call op.Bind) 1
+    ∷ texts.slice 2 1 1 0 6 (end.Call op.Csend) 4611686018427387910
+    ∷ texts.slice 2 1 3 0 1 (end.Call op.Bind) 4611686018427387912
+    ∷ texts.slice 0 0 1 0 2 (end.Trap 8) 3
+    ∷ texts.slice 2 1 1 0 0 (end.Call op.Copy) 4611686018427387913
+    ∷ texts.slice 2 1 2 0 2 (end.Call op.Bind) 4611686018427387916
+    ∷ texts.slice 0 0 2 0 1 (end.Call op.Csend) 5
+    ∷ texts.slice 2 1 3 0 0 (end.Call op.Crecv) 4611686018427387917
+    ∷ texts.slice 0 0 0 0 0 (end.Call op.Give) 6
+    ∷ texts.post 0 0 order.stop
+    ∷ texts.slice 2 1 1 0 2 (end.Trap 2) 4611686018427387919
+    ∷ texts.slice 0 0 2 0 2 (end.Trap 4) 8
+    ∷ texts.slice 2 1 2 0 0 (end.Hold op.Wait) 4611686018427387920
+    ∷ texts.slice 0 0 0 0 0 (end.Call op.Csend) 9
+    ∷ texts.stop 0 1
+    ∷ texts.done 0
+    ∷ texts.slice 2 1 3 0 1 (end.Call op.Copy) 4611686018427387922
+    ∷ texts.slice 2 1 0 0 1 (end.Call op.Crecv) 4611686018427387924
+    ∷ texts.met 1 0 0
+    ∷ texts.slice 2 1 0 0 0 (end.Call op.Claim) 4611686018427387925
+    ∷ texts.slice 2 1 3 0 0 (end.Call op.Revoke) 4611686018427387926
+    ∷ texts.slice 2 1 0 0 0 (end.Call op.Bind) 4611686018427387927
+    ∷ texts.slice 2 1 0 0 0 (end.Hold op.Wait) 4611686018427387928
+    ∷ []
 
 abbrev report : List ReportLine
-report = (rl.CoreOff (record { 0 = 0 }) 9 6 ∷ rl.CoreOn (record { 0 = 1 }) Edf 0 None (record { items = [] }) 0 ∷ rl.CoreOn (record { 0 = 2 }) Edf 4611686018427387928 (Some (record { 0 = 1 })) (record { items = ((record { 0 = 1 }) ∷ []) }) 13 ∷ rl.Block (record { 0 = 0 }) None 9 0 ∷ rl.Disp (record { 0 = 0 }) (record { 0 = 0 }) ds.Ready 3 0 ∷ rl.Disp (record { 0 = 0 }) (record { 0 = 1 }) (ds.Trapped 8) 2 0 ∷ rl.Disp (record { 0 = 0 }) (record { 0 = 2 }) (ds.Trapped 4) 6 2 ∷ rl.Ready (record { 0 = 0 }) (record { items = ((record { 0 = 0 }) ∷ []) }) ∷ rl.Cap (record { 0 = 0 }) (record { 0 = 0 }) (record { kind = kind.SendEnd (record { 0 = 0 }); rights = 7 }) None ∷ rl.Cap (record { 0 = 0 }) (record { 0 = 1 }) (record { kind = kind.Ram 2942 1000; rights = 7 }) None ∷ rl.Cap (record { 0 = 0 }) (record { 0 = 3 }) (record { kind = kind.SendEnd (record { 0 = 1 }); rights = 7 }) None ∷ rl.Cap (record { 0 = 0 }) (record { 0 = 5 }) (record { kind = kind.Signal (record { 0 = 0 }); rights = 0 }) None ∷ rl.Cap (record { 0 = 0 }) (record { 0 = 6 }) (record { kind = kind.Signal (record { 0 = 0 }); rights = 7 }) None ∷ rl.Cap (record { 0 = 0 }) (record { 0 = 7 }) (record { kind = kind.Port (record { 0 = 0 }); rights = 7 }) None ∷ rl.Cap (record { 0 = 0 }) (record { 0 = 8 }) (record { kind = kind.Frame 0 8; rights = 7 }) None ∷ rl.Cap (record { 0 = 0 }) (record { 0 = 9 }) (record { kind = kind.Frame 3528 8; rights = 7 }) None ∷ rl.Cap (record { 0 = 0 }) (record { 0 = 11 }) (record { kind = kind.Signal (record { 0 = 1 }); rights = 7 }) None ∷ rl.Cap (record { 0 = 0 }) (record { 0 = 12 }) (record { kind = kind.Port (record { 0 = 1 }); rights = 7 }) None ∷ rl.Cap (record { 0 = 0 }) (record { 0 = 14 }) (record { kind = kind.SendEnd (record { 0 = 1 }); rights = 7 }) None ∷ rl.Cap (record { 0 = 0 }) (record { 0 = 16 }) (record { kind = kind.Signal (record { 0 = 0 }); rights = 7 }) None ∷ rl.Cap (record { 0 = 0 }) (record { 0 = 17 }) (record { kind = kind.Port (record { 0 = 0 }); rights = 7 }) None ∷ rl.Cap (record { 0 = 0 }) (record { 0 = 18 }) (record { kind = kind.Port (record { 0 = 1 }); rights = 1 }) None ∷ rl.Cap (record { 0 = 0 }) (record { 0 = 20 }) (record { kind = kind.Port (record { 0 = 2 }); rights = 7 }) None ∷ rl.Cap (record { 0 = 0 }) (record { 0 = 22 }) (record { kind = kind.SendEnd (record { 0 = 0 }); rights = 7 }) None ∷ rl.Cap (record { 0 = 0 }) (record { 0 = 23 }) (record { kind = kind.Frame 0 3; rights = 7 }) None ∷ rl.Cap (record { 0 = 0 }) (record { 0 = 24 }) (record { kind = kind.RecvEnd (record { 0 = 2 }); rights = 7 }) None ∷ rl.Cap (record { 0 = 0 }) (record { 0 = 25 }) (record { kind = kind.SendEnd (record { 0 = 4 }); rights = 2 }) None ∷ rl.Cap (record { 0 = 0 }) (record { 0 = 26 }) (record { kind = kind.SendEnd (record { 0 = 5 }); rights = 7 }) None ∷ rl.Cap (record { 0 = 0 }) (record { 0 = 27 }) (record { kind = kind.SendEnd (record { 0 = 1 }); rights = 7 }) None ∷ rl.Cap (record { 0 = 0 }) (record { 0 = 28 }) (record { kind = kind.Signal (record { 0 = 1 }); rights = 7 }) None ∷ rl.Cap (record { 0 = 0 }) (record { 0 = 29 }) (record { kind = kind.RecvEnd (record { 0 = 3 }); rights = 7 }) None ∷ rl.Cap (record { 0 = 0 }) (record { 0 = 33 }) (record { kind = kind.Port (record { 0 = 1 }); rights = 7 }) None ∷ rl.Cap (record { 0 = 0 }) (record { 0 = 34 }) (record { kind = kind.SendEnd (record { 0 = 1 }); rights = 7 }) None ∷ rl.Cap (record { 0 = 0 }) (record { 0 = 35 }) (record { kind = kind.Port (record { 0 = 2 }); rights = 7 }) None ∷ rl.Cap (record { 0 = 0 }) (record { 0 = 37 }) (record { kind = kind.Ram 0 4096; rights = 7 }) None ∷ rl.Cap (record { 0 = 0 }) (record { 0 = 39 }) (record { kind = kind.SendEnd (record { 0 = 7 }); rights = 7 }) None ∷ rl.Cap (record { 0 = 0 }) (record { 0 = 40 }) (record { kind = kind.Port (record { 0 = 0 }); rights = 6 }) None ∷ rl.Cap (record { 0 = 0 }) (record { 0 = 41 }) (record { kind = kind.SendEnd (record { 0 = 5 }); rights = 7 }) None ∷ rl.Cap (record { 0 = 0 }) (record { 0 = 42 }) (record { kind = kind.SendEnd (record { 0 = 4 }); rights = 7 }) None ∷ rl.Cap (record { 0 = 0 }) (record { 0 = 43 }) (record { kind = kind.RecvEnd (record { 0 = 2 }); rights = 7 }) None ∷ rl.Cap (record { 0 = 0 }) (record { 0 = 44 }) (record { kind = kind.Signal (record { 0 = 1 }); rights = 7 }) None ∷ rl.Cap (record { 0 = 0 }) (record { 0 = 45 }) (record { kind = kind.Frame 16 4; rights = 7 }) None ∷ rl.Cap (record { 0 = 0 }) (record { 0 = 47 }) (record { kind = kind.Signal (record { 0 = 0 }); rights = 7 }) None ∷ rl.Block (record { 0 = 1 }) (Some (record { 0 = 2 })) 25 0 ∷ rl.Disp (record { 0 = 1 }) (record { 0 = 0 }) (ds.Waits (wt.Signal (record { 0 = 1 }))) 4 9 ∷ rl.Disp (record { 0 = 1 }) (record { 0 = 1 }) (ds.Trapped 2) 10 6 ∷ rl.Disp (record { 0 = 1 }) (record { 0 = 2 }) (ds.Waits (wt.Signal (record { 0 = 1 }))) 3 6 ∷ rl.Disp (record { 0 = 1 }) (record { 0 = 3 }) ds.Ready 6 8 ∷ rl.Ready (record { 0 = 1 }) (record { items = ((record { 0 = 3 }) ∷ []) }) ∷ rl.Cap (record { 0 = 1 }) (record { 0 = 0 }) (record { kind = kind.Frame 0 4; rights = 7 }) None ∷ rl.Cap (record { 0 = 1 }) (record { 0 = 1 }) (record { kind = kind.SendEnd (record { 0 = 3 }); rights = 7 }) None ∷ rl.Cap (record { 0 = 1 }) (record { 0 = 2 }) (record { kind = kind.Ram 776 100; rights = 7 }) None ∷ rl.Cap (record { 0 = 1 }) (record { 0 = 4 }) (record { kind = kind.RecvEnd (record { 0 = 1 }); rights = 7 }) None ∷ rl.Cap (record { 0 = 1 }) (record { 0 = 5 }) (record { kind = kind.Signal (record { 0 = 0 }); rights = 7 }) None ∷ rl.Cap (record { 0 = 1 }) (record { 0 = 6 }) (record { kind = kind.Frame 0 8; rights = 7 }) None ∷ rl.Cap (record { 0 = 1 }) (record { 0 = 7 }) (record { kind = kind.RecvEnd (record { 0 = 4 }); rights = 7 }) None ∷ rl.Cap (record { 0 = 1 }) (record { 0 = 8 }) (record { kind = kind.SendEnd (record { 0 = 2 }); rights = 0 }) (Some (record { 0 = 27 })) ∷ rl.Cap (record { 0 = 1 }) (record { 0 = 9 }) (record { kind = kind.RecvEnd (record { 0 = 0 }); rights = 7 }) None ∷ rl.Cap (record { 0 = 1 }) (record { 0 = 10 }) (record { kind = kind.Signal (record { 0 = 0 }); rights = 7 }) None ∷ rl.Cap (record { 0 = 1 }) (record { 0 = 11 }) (record { kind = kind.Port (record { 0 = 0 }); rights = 7 }) None ∷ rl.Cap (record { 0 = 1 }) (record { 0 = 13 }) (record { kind = kind.Signal (record { 0 = 1 }); rights = 7 }) None ∷ rl.Cap (record { 0 = 1 }) (record { 0 = 14 }) (record { kind = kind.Line (record { 0 = 0 }); rights = 7 }) None ∷ rl.Cap (record { 0 = 1 }) (record { 0 = 15 }) (record { kind = kind.RecvEnd (record { 0 = 1 }); rights = 7 }) None ∷ rl.Cap (record { 0 = 1 }) (record { 0 = 19 }) (record { kind = kind.Line (record { 0 = 3 }); rights = 7 }) None ∷ rl.Cap (record { 0 = 1 }) (record { 0 = 20 }) (record { kind = kind.Port (record { 0 = 0 }); rights = 7 }) None ∷ rl.Cap (record { 0 = 1 }) (record { 0 = 22 }) (record { kind = kind.SendEnd (record { 0 = 6 }); rights = 7 }) None ∷ rl.Cap (record { 0 = 1 }) (record { 0 = 23 }) (record { kind = kind.RecvEnd (record { 0 = 1 }); rights = 7 }) None ∷ rl.Cap (record { 0 = 1 }) (record { 0 = 25 }) (record { kind = kind.SendEnd (record { 0 = 3 }); rights = 7 }) None ∷ rl.Cap (record { 0 = 1 }) (record { 0 = 26 }) (record { kind = kind.Ram 100 64; rights = 7 }) None ∷ rl.Cap (record { 0 = 1 }) (record { 0 = 27 }) (record { kind = kind.SendEnd (record { 0 = 2 }); rights = 4 }) None ∷ rl.Cap (record { 0 = 1 }) (record { 0 = 28 }) (record { kind = kind.RecvEnd (record { 0 = 5 }); rights = 7 }) None ∷ rl.Cap (record { 0 = 1 }) (record { 0 = 29 }) (record { kind = kind.Signal (record { 0 = 1 }); rights = 7 }) None ∷ rl.Cap (record { 0 = 1 }) (record { 0 = 30 }) (record { kind = kind.RecvEnd (record { 0 = 0 }); rights = 7 }) None ∷ rl.Cap (record { 0 = 1 }) (record { 0 = 31 }) (record { kind = kind.Frame 8 16; rights = 7 }) None ∷ rl.Cap (record { 0 = 1 }) (record { 0 = 32 }) (record { kind = kind.RecvEnd (record { 0 = 1 }); rights = 7 }) None ∷ rl.Cap (record { 0 = 1 }) (record { 0 = 33 }) (record { kind = kind.Signal (record { 0 = 1 }); rights = 7 }) None ∷ rl.Cap (record { 0 = 1 }) (record { 0 = 34 }) (record { kind = kind.SendEnd (record { 0 = 3 }); rights = 7 }) None ∷ rl.Cap (record { 0 = 1 }) (record { 0 = 35 }) (record { kind = kind.Frame 40 16; rights = 7 }) None ∷ rl.Cap (record { 0 = 1 }) (record { 0 = 36 }) (record { kind = kind.RecvEnd (record { 0 = 5 }); rights = 7 }) None ∷ rl.Cap (record { 0 = 1 }) (record { 0 = 39 }) (record { kind = kind.Line (record { 0 = 1 }); rights = 7 }) None ∷ rl.Cap (record { 0 = 1 }) (record { 0 = 40 }) (record { kind = kind.RecvEnd (record { 0 = 7 }); rights = 7 }) None ∷ rl.Cap (record { 0 = 1 }) (record { 0 = 41 }) (record { kind = kind.Signal (record { 0 = 0 }); rights = 7 }) None ∷ rl.Cap (record { 0 = 1 }) (record { 0 = 42 }) (record { kind = kind.Frame 16 16; rights = 7 }) None ∷ rl.Cap (record { 0 = 1 }) (record { 0 = 43 }) (record { kind = kind.SendEnd (record { 0 = 2 }); rights = 7 }) None ∷ rl.Cap (record { 0 = 1 }) (record { 0 = 45 }) (record { kind = kind.SendEnd (record { 0 = 6 }); rights = 7 }) None ∷ rl.Cap (record { 0 = 1 }) (record { 0 = 47 }) (record { kind = kind.Port (record { 0 = 0 }); rights = 7 }) None ∷ rl.Cap (record { 0 = 1 }) (record { 0 = 49 }) (record { kind = kind.RecvEnd (record { 0 = 1 }); rights = 7 }) None ∷ rl.Cap (record { 0 = 1 }) (record { 0 = 50 }) (record { kind = kind.SendEnd (record { 0 = 3 }); rights = 7 }) None ∷ rl.Cap (record { 0 = 1 }) (record { 0 = 51 }) (record { kind = kind.Line (record { 0 = 1 }); rights = 7 }) None ∷ rl.Cap (record { 0 = 1 }) (record { 0 = 52 }) (record { kind = kind.Line (record { 0 = 3 }); rights = 7 }) None ∷ rl.Cap (record { 0 = 1 }) (record { 0 = 53 }) (record { kind = kind.SendEnd (record { 0 = 6 }); rights = 7 }) None ∷ rl.Cap (record { 0 = 1 }) (record { 0 = 55 }) (record { kind = kind.Signal (record { 0 = 0 }); rights = 7 }) None ∷ rl.Cap (record { 0 = 1 }) (record { 0 = 56 }) (record { kind = kind.Port (record { 0 = 0 }); rights = 7 }) None ∷ rl.Cap (record { 0 = 1 }) (record { 0 = 57 }) (record { kind = kind.RecvEnd (record { 0 = 4 }); rights = 7 }) None ∷ rl.Cap (record { 0 = 1 }) (record { 0 = 61 }) (record { kind = kind.RecvEnd (record { 0 = 7 }); rights = 7 }) None ∷ rl.Cap (record { 0 = 1 }) (record { 0 = 62 }) (record { kind = kind.Frame 4 8; rights = 7 }) None ∷ rl.Cap (record { 0 = 1 }) (record { 0 = 63 }) (record { kind = kind.RecvEnd (record { 0 = 0 }); rights = 7 }) None ∷ rl.Channel (record { 0 = 0 }) 0 0 ∷ rl.Channel (record { 0 = 1 }) 1 1 ∷ rl.Channel (record { 0 = 2 }) 0 0 ∷ rl.Channel (record { 0 = 3 }) 1 0 ∷ rl.ChannelMessage (record { 0 = 3 }) (record { 0 = (0 ∷ 0 ∷ 0 ∷ 0 ∷ []) }) ∷ rl.Channel (record { 0 = 4 }) 0 0 ∷ rl.Channel (record { 0 = 5 }) 0 0 ∷ rl.Channel (record { 0 = 6 }) 0 0 ∷ rl.Channel (record { 0 = 7 }) 1 1 ∷ rl.Line (record { 0 = 0 }) (Some ((record { 0 = 1 }), (record { 0 = 1 }))) (Some (record { 0 = 2 })) 0 0 0 0 0 0 0 ∷ rl.Line (record { 0 = 1 }) (Some ((record { 0 = 1 }), (record { 0 = 1 }))) (Some (record { 0 = 2 })) 0 0 0 0 0 0 0 ∷ rl.Line (record { 0 = 2 }) None None 0 0 0 0 0 0 0 ∷ rl.Line (record { 0 = 3 }) (Some ((record { 0 = 1 }), (record { 0 = 0 }))) (Some (record { 0 = 2 })) 0 0 0 0 0 0 0 ∷ [])
+report =
+    report_line.core_off 0 9 6
+    ∷ report_line.core_on 1 Edf 0 None [] 0
+    ∷ report_line.core_on 2 Edf 4611686018427387928 (Some 1) (1 ∷ []) 13
+    ∷ report_line.block 0 None 9 0
+    ∷ report_line.disp 0 0 state.Ready 3 0
+    ∷ report_line.disp 0 1 (state.Trapped 8) 2 0
+    ∷ report_line.disp 0 2 (state.Trapped 4) 6 2
+    ∷ report_line.ready 0 (0 ∷ [])
+    ∷ report_line.cap 0 0 (image_of.sendend 0) 7 None
+    ∷ report_line.cap 0 1 (image_of.ram 2942 1000) 7 None
+    ∷ report_line.cap 0 3 (image_of.sendend 1) 7 None
+    ∷ report_line.cap 0 5 (image_of.signal 0) 0 None
+    ∷ report_line.cap 0 6 (image_of.signal 0) 7 None
+    ∷ report_line.cap 0 7 (image_of.port 0) 7 None
+    ∷ report_line.cap 0 8 (image_of.frame 0 8) 7 None
+    ∷ report_line.cap 0 9 (image_of.frame 3528 8) 7 None
+    ∷ report_line.cap 0 11 (image_of.signal 1) 7 None
+    ∷ report_line.cap 0 12 (image_of.port 1) 7 None
+    ∷ report_line.cap 0 14 (image_of.sendend 1) 7 None
+    ∷ report_line.cap 0 16 (image_of.signal 0) 7 None
+    ∷ report_line.cap 0 17 (image_of.port 0) 7 None
+    ∷ report_line.cap 0 18 (image_of.port 1) 1 None
+    ∷ report_line.cap 0 20 (image_of.port 2) 7 None
+    ∷ report_line.cap 0 22 (image_of.sendend 0) 7 None
+    ∷ report_line.cap 0 23 (image_of.frame 0 3) 7 None
+    ∷ report_line.cap 0 24 (image_of.recvend 2) 7 None
+    ∷ report_line.cap 0 25 (image_of.sendend 4) 2 None
+    ∷ report_line.cap 0 26 (image_of.sendend 5) 7 None
+    ∷ report_line.cap 0 27 (image_of.sendend 1) 7 None
+    ∷ report_line.cap 0 28 (image_of.signal 1) 7 None
+    ∷ report_line.cap 0 29 (image_of.recvend 3) 7 None
+    ∷ report_line.cap 0 33 (image_of.port 1) 7 None
+    ∷ report_line.cap 0 34 (image_of.sendend 1) 7 None
+    ∷ report_line.cap 0 35 (image_of.port 2) 7 None
+    ∷ report_line.cap 0 37 (image_of.ram 0 4096) 7 None
+    ∷ report_line.cap 0 39 (image_of.sendend 7) 7 None
+    ∷ report_line.cap 0 40 (image_of.port 0) 6 None
+    ∷ report_line.cap 0 41 (image_of.sendend 5) 7 None
+    ∷ report_line.cap 0 42 (image_of.sendend 4) 7 None
+    ∷ report_line.cap 0 43 (image_of.recvend 2) 7 None
+    ∷ report_line.cap 0 44 (image_of.signal 1) 7 None
+    ∷ report_line.cap 0 45 (image_of.frame 16 4) 7 None
+    ∷ report_line.cap 0 47 (image_of.signal 0) 7 None
+    ∷ report_line.block 1 (Some 2) 25 0
+    ∷ report_line.disp 1 0 (report_line.waits_signal 1) 4 9
+    ∷ report_line.disp 1 1 (state.Trapped 2) 10 6
+    ∷ report_line.disp 1 2 (report_line.waits_signal 1) 3 6
+    ∷ report_line.disp 1 3 state.Ready 6 8
+    ∷ report_line.ready 1 (3 ∷ [])
+    ∷ report_line.cap 1 0 (image_of.frame 0 4) 7 None
+    ∷ report_line.cap 1 1 (image_of.sendend 3) 7 None
+    ∷ report_line.cap 1 2 (image_of.ram 776 100) 7 None
+    ∷ report_line.cap 1 4 (image_of.recvend 1) 7 None
+    ∷ report_line.cap 1 5 (image_of.signal 0) 7 None
+    ∷ report_line.cap 1 6 (image_of.frame 0 8) 7 None
+    ∷ report_line.cap 1 7 (image_of.recvend 4) 7 None
+    ∷ report_line.cap 1 8 (image_of.sendend 2) 0 (Some 27)
+    ∷ report_line.cap 1 9 (image_of.recvend 0) 7 None
+    ∷ report_line.cap 1 10 (image_of.signal 0) 7 None
+    ∷ report_line.cap 1 11 (image_of.port 0) 7 None
+    ∷ report_line.cap 1 13 (image_of.signal 1) 7 None
+    ∷ report_line.cap 1 14 (image_of.line 0) 7 None
+    ∷ report_line.cap 1 15 (image_of.recvend 1) 7 None
+    ∷ report_line.cap 1 19 (image_of.line 3) 7 None
+    ∷ report_line.cap 1 20 (image_of.port 0) 7 None
+    ∷ report_line.cap 1 22 (image_of.sendend 6) 7 None
+    ∷ report_line.cap 1 23 (image_of.recvend 1) 7 None
+    ∷ report_line.cap 1 25 (image_of.sendend 3) 7 None
+    ∷ report_line.cap 1 26 (image_of.ram 100 64) 7 None
+    ∷ report_line.cap 1 27 (image_of.sendend 2) 4 None
+    ∷ report_line.cap 1 28 (image_of.recvend 5) 7 None
+    ∷ report_line.cap 1 29 (image_of.signal 1) 7 None
+    ∷ report_line.cap 1 30 (image_of.recvend 0) 7 None
+    ∷ report_line.cap 1 31 (image_of.frame 8 16) 7 None
+    ∷ report_line.cap 1 32 (image_of.recvend 1) 7 None
+    ∷ report_line.cap 1 33 (image_of.signal 1) 7 None
+    ∷ report_line.cap 1 34 (image_of.sendend 3) 7 None
+    ∷ report_line.cap 1 35 (image_of.frame 40 16) 7 None
+    ∷ report_line.cap 1 36 (image_of.recvend 5) 7 None
+    ∷ report_line.cap 1 39 (image_of.line 1) 7 None
+    ∷ report_line.cap 1 40 (image_of.recvend 7) 7 None
+    ∷ report_line.cap 1 41 (image_of.signal 0) 7 None
+    ∷ report_line.cap 1 42 (image_of.frame 16 16) 7 None
+    ∷ report_line.cap 1 43 (image_of.sendend 2) 7 None
+    ∷ report_line.cap 1 45 (image_of.sendend 6) 7 None
+    ∷ report_line.cap 1 47 (image_of.port 0) 7 None
+    ∷ report_line.cap 1 49 (image_of.recvend 1) 7 None
+    ∷ report_line.cap 1 50 (image_of.sendend 3) 7 None
+    ∷ report_line.cap 1 51 (image_of.line 1) 7 None
+    ∷ report_line.cap 1 52 (image_of.line 3) 7 None
+    ∷ report_line.cap 1 53 (image_of.sendend 6) 7 None
+    ∷ report_line.cap 1 55 (image_of.signal 0) 7 None
+    ∷ report_line.cap 1 56 (image_of.port 0) 7 None
+    ∷ report_line.cap 1 57 (image_of.recvend 4) 7 None
+    ∷ report_line.cap 1 61 (image_of.recvend 7) 7 None
+    ∷ report_line.cap 1 62 (image_of.frame 4 8) 7 None
+    ∷ report_line.cap 1 63 (image_of.recvend 0) 7 None
+    ∷ report_line.channel 0 0 0
+    ∷ report_line.channel 1 1 1
+    ∷ report_line.channel 2 0 0
+    ∷ report_line.channel 3 1 0
+    ∷ report_line.message 3 0 0 0 0
+    ∷ report_line.channel 4 0 0
+    ∷ report_line.channel 5 0 0
+    ∷ report_line.channel 6 0 0
+    ∷ report_line.channel 7 1 1
+    ∷ report_line.wire 0 (Some (1, 1)) (Some 2) 0 0 0 0 0 0 0
+    ∷ report_line.wire 1 (Some (1, 1)) (Some 2) 0 0 0 0 0 0 0
+    ∷ report_line.wire 2 None None 0 0 0 0 0 0 0
+    ∷ report_line.wire 3 (Some (1, 0)) (Some 2) 0 0 0 0 0 0 0
+    ∷ []
 
 abbrev text : List ℕ
-text = ended (codes "0 core 0 slice 0 0 fired 0 ran 0 call bind clock 1") ++ ended (codes "1 core 2 slice 1 1 fired 0 ran 6 call csend clock 4611686018427387910") ++ ended (codes "2 core 2 slice 1 3 fired 0 ran 1 call bind clock 4611686018427387912") ++ ended (codes "3 core 0 slice 0 1 fired 0 ran 2 trap 8 clock 3") ++ ended (codes "4 core 2 slice 1 1 fired 0 ran 0 call copy clock 4611686018427387913") ++ ended (codes "5 core 2 slice 1 2 fired 0 ran 2 call bind clock 4611686018427387916") ++ ended (codes "6 core 0 slice 0 2 fired 0 ran 1 call csend clock 5") ++ ended (codes "7 core 2 slice 1 3 fired 0 ran 0 call crecv clock 4611686018427387917") ++ ended (codes "8 core 0 slice 0 0 fired 0 ran 0 call give clock 6") ++ ended (codes "9 script 0 post 0 stop") ++ ended (codes "10 core 2 slice 1 1 fired 0 ran 2 trap 2 clock 4611686018427387919") ++ ended (codes "11 core 0 slice 0 2 fired 0 ran 2 trap 4 clock 8") ++ ended (codes "12 core 2 slice 1 2 fired 0 ran 0 hold wait clock 4611686018427387920") ++ ended (codes "13 core 0 slice 0 0 fired 0 ran 0 call csend clock 9") ++ ended (codes "14 core 0 stop 1") ++ ended (codes "15 script 0 done") ++ ended (codes "16 core 2 slice 1 3 fired 0 ran 1 call copy clock 4611686018427387922") ++ ended (codes "17 core 2 slice 1 0 fired 0 ran 1 call crecv clock 4611686018427387924") ++ ended (codes "18 script 1 met 0 0") ++ ended (codes "19 core 2 slice 1 0 fired 0 ran 0 call claim clock 4611686018427387925") ++ ended (codes "20 core 2 slice 1 3 fired 0 ran 0 call revoke clock 4611686018427387926") ++ ended (codes "21 core 2 slice 1 0 fired 0 ran 0 call bind clock 4611686018427387927") ++ ended (codes "22 core 2 slice 1 0 fired 0 ran 0 hold wait clock 4611686018427387928") ++ ended (codes "report") ++ ended (codes "core 0 off clock 9 used 6") ++ ended (codes "core 1 on edf clock 0 home - share - used 0") ++ ended (codes "core 2 on edf clock 4611686018427387928 home 1 share 1 used 13") ++ ended (codes "block 0 rest time 9 armed 0") ++ ended (codes "disp 0 0 ready place 3 due 0") ++ ended (codes "disp 0 1 trap 8 place 2 due 0") ++ ended (codes "disp 0 2 trap 4 place 6 due 2") ++ ended (codes "ready 0 0") ++ ended (codes "cap 0 0 sendend 0 rights 7 parent -") ++ ended (codes "cap 0 1 ram 2942 1000 rights 7 parent -") ++ ended (codes "cap 0 3 sendend 1 rights 7 parent -") ++ ended (codes "cap 0 5 signal 0 rights 0 parent -") ++ ended (codes "cap 0 6 signal 0 rights 7 parent -") ++ ended (codes "cap 0 7 port 0 rights 7 parent -") ++ ended (codes "cap 0 8 frame 0 8 rights 7 parent -") ++ ended (codes "cap 0 9 frame 3528 8 rights 7 parent -") ++ ended (codes "cap 0 11 signal 1 rights 7 parent -") ++ ended (codes "cap 0 12 port 1 rights 7 parent -") ++ ended (codes "cap 0 14 sendend 1 rights 7 parent -") ++ ended (codes "cap 0 16 signal 0 rights 7 parent -") ++ ended (codes "cap 0 17 port 0 rights 7 parent -") ++ ended (codes "cap 0 18 port 1 rights 1 parent -") ++ ended (codes "cap 0 20 port 2 rights 7 parent -") ++ ended (codes "cap 0 22 sendend 0 rights 7 parent -") ++ ended (codes "cap 0 23 frame 0 3 rights 7 parent -") ++ ended (codes "cap 0 24 recvend 2 rights 7 parent -") ++ ended (codes "cap 0 25 sendend 4 rights 2 parent -") ++ ended (codes "cap 0 26 sendend 5 rights 7 parent -") ++ ended (codes "cap 0 27 sendend 1 rights 7 parent -") ++ ended (codes "cap 0 28 signal 1 rights 7 parent -") ++ ended (codes "cap 0 29 recvend 3 rights 7 parent -") ++ ended (codes "cap 0 33 port 1 rights 7 parent -") ++ ended (codes "cap 0 34 sendend 1 rights 7 parent -") ++ ended (codes "cap 0 35 port 2 rights 7 parent -") ++ ended (codes "cap 0 37 ram 0 4096 rights 7 parent -") ++ ended (codes "cap 0 39 sendend 7 rights 7 parent -") ++ ended (codes "cap 0 40 port 0 rights 6 parent -") ++ ended (codes "cap 0 41 sendend 5 rights 7 parent -") ++ ended (codes "cap 0 42 sendend 4 rights 7 parent -") ++ ended (codes "cap 0 43 recvend 2 rights 7 parent -") ++ ended (codes "cap 0 44 signal 1 rights 7 parent -") ++ ended (codes "cap 0 45 frame 16 4 rights 7 parent -") ++ ended (codes "cap 0 47 signal 0 rights 7 parent -") ++ ended (codes "block 1 core 2 time 25 armed 0") ++ ended (codes "disp 1 0 wait signal 1 place 4 due 9") ++ ended (codes "disp 1 1 trap 2 place 10 due 6") ++ ended (codes "disp 1 2 wait signal 1 place 3 due 6") ++ ended (codes "disp 1 3 ready place 6 due 8") ++ ended (codes "ready 1 3") ++ ended (codes "cap 1 0 frame 0 4 rights 7 parent -") ++ ended (codes "cap 1 1 sendend 3 rights 7 parent -") ++ ended (codes "cap 1 2 ram 776 100 rights 7 parent -") ++ ended (codes "cap 1 4 recvend 1 rights 7 parent -") ++ ended (codes "cap 1 5 signal 0 rights 7 parent -") ++ ended (codes "cap 1 6 frame 0 8 rights 7 parent -") ++ ended (codes "cap 1 7 recvend 4 rights 7 parent -") ++ ended (codes "cap 1 8 sendend 2 rights 0 parent 27") ++ ended (codes "cap 1 9 recvend 0 rights 7 parent -") ++ ended (codes "cap 1 10 signal 0 rights 7 parent -") ++ ended (codes "cap 1 11 port 0 rights 7 parent -") ++ ended (codes "cap 1 13 signal 1 rights 7 parent -") ++ ended (codes "cap 1 14 line 0 rights 7 parent -") ++ ended (codes "cap 1 15 recvend 1 rights 7 parent -") ++ ended (codes "cap 1 19 line 3 rights 7 parent -") ++ ended (codes "cap 1 20 port 0 rights 7 parent -") ++ ended (codes "cap 1 22 sendend 6 rights 7 parent -") ++ ended (codes "cap 1 23 recvend 1 rights 7 parent -") ++ ended (codes "cap 1 25 sendend 3 rights 7 parent -") ++ ended (codes "cap 1 26 ram 100 64 rights 7 parent -") ++ ended (codes "cap 1 27 sendend 2 rights 4 parent -") ++ ended (codes "cap 1 28 recvend 5 rights 7 parent -") ++ ended (codes "cap 1 29 signal 1 rights 7 parent -") ++ ended (codes "cap 1 30 recvend 0 rights 7 parent -") ++ ended (codes "cap 1 31 frame 8 16 rights 7 parent -") ++ ended (codes "cap 1 32 recvend 1 rights 7 parent -") ++ ended (codes "cap 1 33 signal 1 rights 7 parent -") ++ ended (codes "cap 1 34 sendend 3 rights 7 parent -") ++ ended (codes "cap 1 35 frame 40 16 rights 7 parent -") ++ ended (codes "cap 1 36 recvend 5 rights 7 parent -") ++ ended (codes "cap 1 39 line 1 rights 7 parent -") ++ ended (codes "cap 1 40 recvend 7 rights 7 parent -") ++ ended (codes "cap 1 41 signal 0 rights 7 parent -") ++ ended (codes "cap 1 42 frame 16 16 rights 7 parent -") ++ ended (codes "cap 1 43 sendend 2 rights 7 parent -") ++ ended (codes "cap 1 45 sendend 6 rights 7 parent -") ++ ended (codes "cap 1 47 port 0 rights 7 parent -") ++ ended (codes "cap 1 49 recvend 1 rights 7 parent -") ++ ended (codes "cap 1 50 sendend 3 rights 7 parent -") ++ ended (codes "cap 1 51 line 1 rights 7 parent -") ++ ended (codes "cap 1 52 line 3 rights 7 parent -") ++ ended (codes "cap 1 53 sendend 6 rights 7 parent -") ++ ended (codes "cap 1 55 signal 0 rights 7 parent -") ++ ended (codes "cap 1 56 port 0 rights 7 parent -") ++ ended (codes "cap 1 57 recvend 4 rights 7 parent -") ++ ended (codes "cap 1 61 recvend 7 rights 7 parent -") ++ ended (codes "cap 1 62 frame 4 8 rights 7 parent -") ++ ended (codes "cap 1 63 recvend 0 rights 7 parent -") ++ ended (codes "channel 0 sent 0 taken 0") ++ ended (codes "channel 1 sent 1 taken 1") ++ ended (codes "channel 2 sent 0 taken 0") ++ ended (codes "channel 3 sent 1 taken 0") ++ ended (codes "message 3 0 0 0 0") ++ ended (codes "channel 4 sent 0 taken 0") ++ ended (codes "channel 5 sent 0 taken 0") ++ ended (codes "channel 6 sent 0 taken 0") ++ ended (codes "channel 7 sent 1 taken 1") ++ ended (codes "line 0 to 1 1 route 2 raised 0 stray 0 pending 0 merged 0 latched 0 joined 0 delivered 0") ++ ended (codes "line 1 to 1 1 route 2 raised 0 stray 0 pending 0 merged 0 latched 0 joined 0 delivered 0") ++ ended (codes "line 2 to - - route - raised 0 stray 0 pending 0 merged 0 latched 0 joined 0 delivered 0") ++ ended (codes "line 3 to 1 0 route 2 raised 0 stray 0 pending 0 merged 0 latched 0 joined 0 delivered 0") ++ ended (codes "skipped 17") ++ ended (codes "end")
+text = texts.lines (
+    "0 core 0 slice 0 0 fired 0 ran 0 call bind clock 1"
+    ∷ "1 core 2 slice 1 1 fired 0 ran 6 call csend clock 4611686018427387910"
+    ∷ "2 core 2 slice 1 3 fired 0 ran 1 call bind clock 4611686018427387912"
+    ∷ "3 core 0 slice 0 1 fired 0 ran 2 trap 8 clock 3"
+    ∷ "4 core 2 slice 1 1 fired 0 ran 0 call copy clock 4611686018427387913"
+    ∷ "5 core 2 slice 1 2 fired 0 ran 2 call bind clock 4611686018427387916"
+    ∷ "6 core 0 slice 0 2 fired 0 ran 1 call csend clock 5"
+    ∷ "7 core 2 slice 1 3 fired 0 ran 0 call crecv clock 4611686018427387917"
+    ∷ "8 core 0 slice 0 0 fired 0 ran 0 call give clock 6"
+    ∷ "9 script 0 post 0 stop"
+    ∷ "10 core 2 slice 1 1 fired 0 ran 2 trap 2 clock 4611686018427387919"
+    ∷ "11 core 0 slice 0 2 fired 0 ran 2 trap 4 clock 8"
+    ∷ "12 core 2 slice 1 2 fired 0 ran 0 hold wait clock 4611686018427387920"
+    ∷ "13 core 0 slice 0 0 fired 0 ran 0 call csend clock 9"
+    ∷ "14 core 0 stop 1"
+    ∷ "15 script 0 done"
+    ∷ "16 core 2 slice 1 3 fired 0 ran 1 call copy clock 4611686018427387922"
+    ∷ "17 core 2 slice 1 0 fired 0 ran 1 call crecv clock 4611686018427387924"
+    ∷ "18 script 1 met 0 0"
+    ∷ "19 core 2 slice 1 0 fired 0 ran 0 call claim clock 4611686018427387925"
+    ∷ "20 core 2 slice 1 3 fired 0 ran 0 call revoke clock 4611686018427387926"
+    ∷ "21 core 2 slice 1 0 fired 0 ran 0 call bind clock 4611686018427387927"
+    ∷ "22 core 2 slice 1 0 fired 0 ran 0 hold wait clock 4611686018427387928"
+    ∷ "report"
+    ∷ "core 0 off clock 9 used 6"
+    ∷ "core 1 on edf clock 0 home - share - used 0"
+    ∷ "core 2 on edf clock 4611686018427387928 home 1 share 1 used 13"
+    ∷ "block 0 rest time 9 armed 0"
+    ∷ "disp 0 0 ready place 3 due 0"
+    ∷ "disp 0 1 trap 8 place 2 due 0"
+    ∷ "disp 0 2 trap 4 place 6 due 2"
+    ∷ "ready 0 0"
+    ∷ "cap 0 0 sendend 0 rights 7 parent -"
+    ∷ "cap 0 1 ram 2942 1000 rights 7 parent -"
+    ∷ "cap 0 3 sendend 1 rights 7 parent -"
+    ∷ "cap 0 5 signal 0 rights 0 parent -"
+    ∷ "cap 0 6 signal 0 rights 7 parent -"
+    ∷ "cap 0 7 port 0 rights 7 parent -"
+    ∷ "cap 0 8 frame 0 8 rights 7 parent -"
+    ∷ "cap 0 9 frame 3528 8 rights 7 parent -"
+    ∷ "cap 0 11 signal 1 rights 7 parent -"
+    ∷ "cap 0 12 port 1 rights 7 parent -"
+    ∷ "cap 0 14 sendend 1 rights 7 parent -"
+    ∷ "cap 0 16 signal 0 rights 7 parent -"
+    ∷ "cap 0 17 port 0 rights 7 parent -"
+    ∷ "cap 0 18 port 1 rights 1 parent -"
+    ∷ "cap 0 20 port 2 rights 7 parent -"
+    ∷ "cap 0 22 sendend 0 rights 7 parent -"
+    ∷ "cap 0 23 frame 0 3 rights 7 parent -"
+    ∷ "cap 0 24 recvend 2 rights 7 parent -"
+    ∷ "cap 0 25 sendend 4 rights 2 parent -"
+    ∷ "cap 0 26 sendend 5 rights 7 parent -"
+    ∷ "cap 0 27 sendend 1 rights 7 parent -"
+    ∷ "cap 0 28 signal 1 rights 7 parent -"
+    ∷ "cap 0 29 recvend 3 rights 7 parent -"
+    ∷ "cap 0 33 port 1 rights 7 parent -"
+    ∷ "cap 0 34 sendend 1 rights 7 parent -"
+    ∷ "cap 0 35 port 2 rights 7 parent -"
+    ∷ "cap 0 37 ram 0 4096 rights 7 parent -"
+    ∷ "cap 0 39 sendend 7 rights 7 parent -"
+    ∷ "cap 0 40 port 0 rights 6 parent -"
+    ∷ "cap 0 41 sendend 5 rights 7 parent -"
+    ∷ "cap 0 42 sendend 4 rights 7 parent -"
+    ∷ "cap 0 43 recvend 2 rights 7 parent -"
+    ∷ "cap 0 44 signal 1 rights 7 parent -"
+    ∷ "cap 0 45 frame 16 4 rights 7 parent -"
+    ∷ "cap 0 47 signal 0 rights 7 parent -"
+    ∷ "block 1 core 2 time 25 armed 0"
+    ∷ "disp 1 0 wait signal 1 place 4 due 9"
+    ∷ "disp 1 1 trap 2 place 10 due 6"
+    ∷ "disp 1 2 wait signal 1 place 3 due 6"
+    ∷ "disp 1 3 ready place 6 due 8"
+    ∷ "ready 1 3"
+    ∷ "cap 1 0 frame 0 4 rights 7 parent -"
+    ∷ "cap 1 1 sendend 3 rights 7 parent -"
+    ∷ "cap 1 2 ram 776 100 rights 7 parent -"
+    ∷ "cap 1 4 recvend 1 rights 7 parent -"
+    ∷ "cap 1 5 signal 0 rights 7 parent -"
+    ∷ "cap 1 6 frame 0 8 rights 7 parent -"
+    ∷ "cap 1 7 recvend 4 rights 7 parent -"
+    ∷ "cap 1 8 sendend 2 rights 0 parent 27"
+    ∷ "cap 1 9 recvend 0 rights 7 parent -"
+    ∷ "cap 1 10 signal 0 rights 7 parent -"
+    ∷ "cap 1 11 port 0 rights 7 parent -"
+    ∷ "cap 1 13 signal 1 rights 7 parent -"
+    ∷ "cap 1 14 line 0 rights 7 parent -"
+    ∷ "cap 1 15 recvend 1 rights 7 parent -"
+    ∷ "cap 1 19 line 3 rights 7 parent -"
+    ∷ "cap 1 20 port 0 rights 7 parent -"
+    ∷ "cap 1 22 sendend 6 rights 7 parent -"
+    ∷ "cap 1 23 recvend 1 rights 7 parent -"
+    ∷ "cap 1 25 sendend 3 rights 7 parent -"
+    ∷ "cap 1 26 ram 100 64 rights 7 parent -"
+    ∷ "cap 1 27 sendend 2 rights 4 parent -"
+    ∷ "cap 1 28 recvend 5 rights 7 parent -"
+    ∷ "cap 1 29 signal 1 rights 7 parent -"
+    ∷ "cap 1 30 recvend 0 rights 7 parent -"
+    ∷ "cap 1 31 frame 8 16 rights 7 parent -"
+    ∷ "cap 1 32 recvend 1 rights 7 parent -"
+    ∷ "cap 1 33 signal 1 rights 7 parent -"
+    ∷ "cap 1 34 sendend 3 rights 7 parent -"
+    ∷ "cap 1 35 frame 40 16 rights 7 parent -"
+    ∷ "cap 1 36 recvend 5 rights 7 parent -"
+    ∷ "cap 1 39 line 1 rights 7 parent -"
+    ∷ "cap 1 40 recvend 7 rights 7 parent -"
+    ∷ "cap 1 41 signal 0 rights 7 parent -"
+    ∷ "cap 1 42 frame 16 16 rights 7 parent -"
+    ∷ "cap 1 43 sendend 2 rights 7 parent -"
+    ∷ "cap 1 45 sendend 6 rights 7 parent -"
+    ∷ "cap 1 47 port 0 rights 7 parent -"
+    ∷ "cap 1 49 recvend 1 rights 7 parent -"
+    ∷ "cap 1 50 sendend 3 rights 7 parent -"
+    ∷ "cap 1 51 line 1 rights 7 parent -"
+    ∷ "cap 1 52 line 3 rights 7 parent -"
+    ∷ "cap 1 53 sendend 6 rights 7 parent -"
+    ∷ "cap 1 55 signal 0 rights 7 parent -"
+    ∷ "cap 1 56 port 0 rights 7 parent -"
+    ∷ "cap 1 57 recvend 4 rights 7 parent -"
+    ∷ "cap 1 61 recvend 7 rights 7 parent -"
+    ∷ "cap 1 62 frame 4 8 rights 7 parent -"
+    ∷ "cap 1 63 recvend 0 rights 7 parent -"
+    ∷ "channel 0 sent 0 taken 0"
+    ∷ "channel 1 sent 1 taken 1"
+    ∷ "channel 2 sent 0 taken 0"
+    ∷ "channel 3 sent 1 taken 0"
+    ∷ "message 3 0 0 0 0"
+    ∷ "channel 4 sent 0 taken 0"
+    ∷ "channel 5 sent 0 taken 0"
+    ∷ "channel 6 sent 0 taken 0"
+    ∷ "channel 7 sent 1 taken 1"
+    ∷ "line 0 to 1 1 route 2 raised 0 stray 0 pending 0 merged 0 latched 0 joined 0 delivered 0"
+    ∷ "line 1 to 1 1 route 2 raised 0 stray 0 pending 0 merged 0 latched 0 joined 0 delivered 0"
+    ∷ "line 2 to - - route - raised 0 stray 0 pending 0 merged 0 latched 0 joined 0 delivered 0"
+    ∷ "line 3 to 1 0 route 2 raised 0 stray 0 pending 0 merged 0 latched 0 joined 0 delivered 0"
+    ∷ "skipped 17"
+    ∷ "end"
+    ∷ [])
 
 is_played : played image script schedule ≡ record {
   journal = journal;
   skipped = 17;
-  reasons = (Some rs.NoOrder ∷ Some rs.NotPending ∷ Some rs.NoOrder ∷ Some rs.NotPending ∷ Some (rs.NotHere (record { 0 = 1 })) ∷ Some rs.Nothing ∷ Some (rs.NoAck (record { 0 = 0 })) ∷ Some (rs.NoAck (record { 0 = 0 })) ∷ Some (rs.NoAck (record { 0 = 0 })) ∷ Some (rs.NoAck (record { 0 = 0 })) ∷ Some rs.NoOrder ∷ Some rs.NoOrder ∷ Some rs.CoreOff ∷ Some (rs.RaisesFirst 2) ∷ Some (rs.RaisesFirst 2) ∷ Some rs.Nothing ∷ Some rs.CoreOff ∷ []);
+  reasons =
+      Some why.NoOrder ∷ Some why.NotPending ∷ Some why.NoOrder ∷ Some why.NotPending ∷ Some (why.NotHere (record { 0 = 1 })) ∷ Some why.Nothing
+      ∷ Some (why.NoAck (record { 0 = 0 })) ∷ Some (why.NoAck (record { 0 = 0 })) ∷ Some (why.NoAck (record { 0 = 0 }))
+      ∷ Some (why.NoAck (record { 0 = 0 })) ∷ Some why.NoOrder ∷ Some why.NoOrder ∷ Some why.CoreOff ∷ Some (why.RaisesFirst 2) ∷ Some (why.RaisesFirst 2)
+      ∷ Some why.Nothing ∷ Some why.CoreOff ∷ [];
   report = report;
   text = text;
   again = journal;
@@ -95,11 +526,17 @@ unfolding machine_of_blocks
 is_none_lost = refl
 
 -- the journal has told what the state shows
-is_told : option_map facts_told (run image script journal) ≡ option_map (facts_of (core_run image script schedule).state) (run image script journal)
+is_told : option_map facts_told (run image script journal)
+    ≡ option_map (facts_of (core_run image script schedule).state) (run image script journal)
 unfolding machine_with_cores machine_of_blocks
 is_told = refl
 
--- journals with a word changed, and the first bad entry of each
-are_changed : first_bads image script ((texts.slice 0 0 0 0 0 (end.Call op.Bind) 1 ∷ texts.slice 2 1 1 0 6 (end.Call op.Csend) 4611686018427387910 ∷ texts.slice 2 1 3 0 1 (end.Call op.Bind) 4611686018427387912 ∷ texts.slice 0 0 1 0 2 (end.Trap 8) 3 ∷ texts.slice 2 1 1 0 0 (end.Call op.Copy) 4611686018427387913 ∷ texts.slice 2 1 2 0 2 (end.Call op.Bind) 4611686018427387916 ∷ texts.slice 0 0 2 0 1 (end.Call op.Csend) 5 ∷ texts.slice 2 1 3 0 0 (end.Call op.Crecv) 4611686018427387917 ∷ texts.slice 0 0 0 0 0 (end.Call op.Give) 6 ∷ texts.post 0 0 order.Stop ∷ texts.slice 0 0 2 0 2 (end.Trap 4) 8 ∷ texts.slice 2 1 2 0 0 (end.Hold op.Wait) 4611686018427387920 ∷ texts.slice 0 0 0 0 0 (end.Call op.Csend) 9 ∷ texts.stop 0 1 ∷ texts.done 0 ∷ texts.slice 2 1 3 0 1 (end.Call op.Copy) 4611686018427387922 ∷ texts.slice 2 1 0 0 1 (end.Call op.Crecv) 4611686018427387924 ∷ texts.met 1 0 0 ∷ texts.slice 2 1 0 0 0 (end.Call op.Claim) 4611686018427387925 ∷ texts.slice 2 1 3 0 0 (end.Call op.Revoke) 4611686018427387926 ∷ texts.slice 2 1 0 0 0 (end.Call op.Bind) 4611686018427387927 ∷ texts.slice 2 1 0 0 0 (end.Hold op.Wait) 4611686018427387928 ∷ []) ∷ (texts.slice 0 0 0 0 0 (end.Call op.Bind) 1 ∷ texts.slice 2 1 1 0 6 (end.Call op.Csend) 4611686018427387910 ∷ texts.slice 2 1 3 0 1 (end.Call op.Bind) 4611686018427387912 ∷ texts.slice 0 0 1 0 2 (end.Trap 8) 3 ∷ texts.slice 2 1 1 0 0 (end.Call op.Copy) 4611686018427387913 ∷ texts.slice 2 1 2 0 2 (end.Call op.Bind) 4611686018427387916 ∷ texts.slice 0 0 2 0 1 (end.Call op.Csend) 5 ∷ texts.slice 2 1 3 0 0 (end.Call op.Crecv) 4611686018427387917 ∷ texts.slice 0 0 0 0 0 (end.Call op.Give) 6 ∷ texts.post 0 0 order.Stop ∷ texts.slice 2 1 1 0 2 (end.Trap 2) 4611686018427387919 ∷ texts.slice 0 0 2 0 2 (end.Trap 4) 8 ∷ texts.slice 2 1 2 0 0 (end.Hold op.Wait) 4611686018427387920 ∷ texts.slice 0 0 0 0 0 (end.Call op.Csend) 9 ∷ texts.stop 0 1 ∷ texts.done 0 ∷ texts.slice 2 1 3 0 1 (end.Call op.Copy) 4611686018427387922 ∷ texts.slice 2 1 0 0 1 (end.Call op.Crecv) 4611686018427387924 ∷ texts.met 1 0 0 ∷ texts.slice 2 1 0 0 0 (end.Call op.Claim) 4611686018427387925 ∷ texts.slice 2 1 0 0 0 (end.Call op.Bind) 4611686018427387927 ∷ texts.slice 2 1 0 0 0 (end.Hold op.Wait) 4611686018427387928 ∷ []) ∷ (texts.slice 0 0 0 0 0 (end.Call op.Bind) 1 ∷ texts.slice 2 1 1 0 6 (end.Call op.Csend) 4611686018427387909 ∷ texts.slice 2 1 3 0 1 (end.Call op.Bind) 4611686018427387912 ∷ texts.slice 0 0 1 0 2 (end.Trap 8) 3 ∷ texts.slice 2 1 1 0 0 (end.Call op.Copy) 4611686018427387913 ∷ texts.slice 2 1 2 0 2 (end.Call op.Bind) 4611686018427387916 ∷ texts.slice 0 0 2 0 1 (end.Call op.Csend) 5 ∷ texts.slice 2 1 3 0 0 (end.Call op.Crecv) 4611686018427387917 ∷ texts.slice 0 0 0 0 0 (end.Call op.Give) 6 ∷ texts.post 0 0 order.Stop ∷ texts.slice 2 1 1 0 2 (end.Trap 2) 4611686018427387919 ∷ texts.slice 0 0 2 0 2 (end.Trap 4) 8 ∷ texts.slice 2 1 2 0 0 (end.Hold op.Wait) 4611686018427387920 ∷ texts.slice 0 0 0 0 0 (end.Call op.Csend) 9 ∷ texts.stop 0 1 ∷ texts.done 0 ∷ texts.slice 2 1 3 0 1 (end.Call op.Copy) 4611686018427387922 ∷ texts.slice 2 1 0 0 1 (end.Call op.Crecv) 4611686018427387924 ∷ texts.met 1 0 0 ∷ texts.slice 2 1 0 0 0 (end.Call op.Claim) 4611686018427387925 ∷ texts.slice 2 1 3 0 0 (end.Call op.Revoke) 4611686018427387926 ∷ texts.slice 2 1 0 0 0 (end.Call op.Bind) 4611686018427387927 ∷ texts.slice 2 1 0 0 0 (end.Hold op.Wait) 4611686018427387928 ∷ []) ∷ []) ≡ Some 11 ∷ Some 20 ∷ Some 1 ∷ []
+-- journals that are changed, and the first bad entry of each
+are_changed : first_bads image script (
+    without_line 10 journal
+    ∷ without_line 20 journal
+    ∷ with_line 1 (texts.slice 2 1 1 0 6 (end.Call op.Csend) 4611686018427387909) journal
+    ∷ [])
+    ≡ Some 11 ∷ Some 20 ∷ Some 1 ∷ []
 unfolding machine_of_blocks
 are_changed = refl
