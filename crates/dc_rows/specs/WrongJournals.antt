@@ -1,5 +1,5 @@
 -- Journals that are changed by a line.
-use Rattle.std.specs.Prelude.{ℕ, ◌+◌, List, [], ◌∷◌, ◌++◌, take, drop, slice_set}
+use Rattle.std.specs.Prelude.{ℕ, ◌+◌, List, ◌∷◌, ◌++◌, take, drop, slice_set}
 use Rattle.dc_base.specs.declared.entries.Entry.{Entry}
 
 -- another entry at this ticket
