@@ -1,5 +1,5 @@
 -- What an entry of each kind is: what it found, and what became of it.
-use Rattle.std.proofs.Common.{◌≡◌, ℕ, zero, suc, ◌+◌, List, [], ◌∷◌, ◌++◌, Bool, true, false, Option, Some, None, refl, sym, ap, ◌∙◌, subst, map, arith}
+use Rattle.std.proofs.Common.{◌≡◌, ◌⊎◌, inl, inr, ℕ, zero, suc, ◌+◌, List, [], ◌∷◌, ◌++◌, Bool, true, false, Option, Some, None, refl, sym, ap, ◌∙◌, subst, map, arith}
 use Rattle.std.specs.Prelude.{slice_get, if◌then◌else◌, find, nat_lt, nat_le, ◌==◌, ◌||◌, length, ℤ, is_some}
 use Rattle.dc_base.specs.declared.calls.Need.{Need}
 use Rattle.dc_base.specs.declared.calls.Need.TheVariants as needs
@@ -38,6 +38,7 @@ use Rattle.dc_base.specs.Intakes.{intake_outcome, intake_pending, intake_line}
 use Rattle.dc_base.specs.KeptByBlocks.{is_ready}
 use Rattle.dc_base.specs.Lines.{Wire, wire_after_raise, wire_after_intake, line_latch}
 use Rattle.dc_base.specs.Orders.{acked, change_all, block_at_rest, block_under, adopted_time, adopt_outcome, release_outcome, carry_out, order_turn}
+use Rattle.dc_base.specs.NeedsHere.{need_here}
 use Rattle.dc_base.specs.Outcomes.{by_script, if_on, share_blocks, share_without, has, if_here}
 use Rattle.dc_base.specs.Policies.{pick}
 use Rattle.dc_base.specs.Ports.{latch_at, how_latched}
@@ -45,7 +46,7 @@ use Rattle.dc_base.specs.Raises.{raise_on, raise_line, raise_turn, first_unbegun
 use Rattle.dc_base.specs.Script.{next_raise}
 use Rattle.dc_base.specs.Serving.{Outside, nothing_outside}
 use Rattle.dc_base.specs.Slices.{Sliced, Halfway, halfway, need_of, slice_end, without_ready}
-use Rattle.dc_base.specs.States.{State, Core, Block, with_control, Member, Mailbox, empty, order, ack, Script, Whereabouts, rest, on, time_on, time_at, place_on}
+use Rattle.dc_base.specs.States.{State, Settings, Core, Block, with_control, Member, Mailbox, empty, order, ack, Script, Whereabouts, rest, on, time_on, time_at, place_on}
 use Rattle.dc_base.specs.Steps.{with_clock, core_after_slice, as_console, as_channel, as_line, look_outside, outside_change, slice_outcome, finish_slice, slice_picked, slice_from, slice_turn, next_due, idle_outcome, step_on, step_turn, is_runnable}
 use Rattle.dc_base.specs.Turns.{Outcome, did, not_enabled, spent, Looked, Turn, ends, look_blocks, look_block, look_line, looked_at, outcome}
 use Rattle.dc_base.specs.Wakes.{ready_again, after_wake, wake_sender, wake_receiver, wake_waiting, wake_in, wake_turn}
@@ -58,6 +59,21 @@ outside_at s b needs.Nothing = nothing_outside
 outside_at s b needs.Console = as_console (slice_get s.consoles b)
 outside_at s b (needs.Channel x) = as_channel (slice_get s.channels x.0)
 outside_at s b (needs.Line l) = as_line (slice_get s.lines l.0)
+
+-- a line that does not exist is not needed
+pub here_or_nothing : (t : Settings) (n : Need) → (need_here t n ≡ n) ⊎ (need_here t n ≡ needs.Nothing)
+here_or_nothing t needs.Nothing = inl refl
+here_or_nothing t needs.Console = inl refl
+here_or_nothing t (needs.Channel x) = inl refl
+here_or_nothing t (needs.Line l) = by_test (nat_lt l.0 t.lines)
+  where
+    by_test : (test : Bool) → ((if test then needs.Line l else needs.Nothing) ≡ needs.Line l) ⊎ ((if test then needs.Line l else needs.Nothing) ≡ needs.Nothing)
+    by_test true = inl refl
+    by_test false = inr refl
+
+-- what the call gets is the object that it needs, or nothing
+pub here_or_none : (t : Settings) (s : State) (b : ℕ) (n : Need) → (outside_at s b (need_here t n) ≡ outside_at s b n) ⊎ (outside_at s b (need_here t n) ≡ nothing_outside)
+here_or_none t s b n = elim (here_or_nothing t n) [ inl same ↦ inl (ap (outside_at s b) same) | inr none ↦ inr (ap (outside_at s b) none) ]
 
 -- a control block after its due timers fired, on a core whose clock stands so, at this offset
 abbrev pub after_timers : ℕ → ℤ → ControlBlock → ControlBlock
@@ -85,11 +101,15 @@ pub record IsSlice (s : State) (chs : List Change) (e : Entry) : Type 0 where
   pub h : Halfway
   pub halfway_at : halfway k.settings.quantum (time_on k.clock offset) (without_ready d (after_timers k.clock offset x.control)) d ≡ Some h
   pub picked : pick v (after_timers k.clock offset x.control).dues (after_timers k.clock offset x.control).ready ≡ Some d
-  pub outcome_is : did chs e ≡ slice_outcome c k b x d (fire_all (time_on k.clock offset) x.control).count (slice_end c b v d h (outside_at s b (need_of h)))
+  pub outcome_is : did chs e ≡ slice_outcome c k b x d (fire_all (time_on k.clock offset) x.control).count (slice_end c b v d h (outside_at s b (need_here k.settings (need_of h))))
+
+-- what its call got
+abbrev pub got_by : (s : State) (chs : List Change) (e : Entry) → IsSlice s chs e → Outside
+got_by s chs e i = outside_at s i.b (need_here i.k.settings (need_of i.h))
 
 -- what the slice did
 abbrev pub sliced_of : (s : State) (chs : List Change) (e : Entry) → IsSlice s chs e → Sliced
-sliced_of s chs e i = slice_end i.c i.b i.v i.d i.h (outside_at s i.b (need_of i.h))
+sliced_of s chs e i = slice_end i.c i.b i.v i.d i.h (got_by s chs e i)
 
 -- the changes of a slice
 pub slice_changes : (s : State) (chs : List Change) (e : Entry) (i : IsSlice s chs e) →
@@ -337,7 +357,7 @@ module _ (s : State) (chs : List Change) (e : Entry) where
         h = h;
         halfway_at = q;
         picked = p;
-        outcome_is = sym (outside_comes b (need_of h) (λ out. ends (slice_outcome c k b x d (fire_all (time_on k.clock offset) x.control).count (slice_end c b v d h out))) g);
+        outcome_is = sym (outside_comes b (need_here k.settings (need_of h)) (λ out. ends (slice_outcome c k b x d (fire_all (time_on k.clock offset) x.control).count (slice_end c b v d h out))) g);
       })
 
       picked_kind : (o : Option ℕ) → pick v (after_timers k.clock offset x.control).dues (after_timers k.clock offset x.control).ready ≡ o →

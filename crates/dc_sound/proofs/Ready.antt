@@ -21,7 +21,7 @@ use Rattle.dc_base.specs.KeptByBlocks.{AllReady, HasReady, is_ready}
 use Rattle.dc_base.specs.Lines.{line_latch}
 use Rattle.dc_base.specs.Policies.{pick, front, earliest, earlier, is_earlier}
 use Rattle.dc_base.specs.Serving.{need, Outside, Served, faulted, held_up, served, serve}
-use Rattle.dc_base.specs.Slices.{Halfway, stopped, stands, need_of, after_served, after_ahead, halfway, due_after, slice_end, without_ready, ready_last, with_state, with_ahead}
+use Rattle.dc_base.specs.Slices.{Halfway, stopped, stands, after_served, after_ahead, halfway, due_after, slice_end, without_ready, ready_last, with_state, with_ahead}
 use Rattle.dc_base.specs.States.{State, time_on}
 use Rattle.dc_base.specs.Timers.{due_timer}
 use Rattle.dc_base.specs.Wakes.{ready_again}
@@ -29,7 +29,7 @@ use Rattle.dc_base.specs.Words.{without, count_of, bind}
 use Rattle.dc_base.specs.declared.calls.Op.{Op}
 use Rattle.dc_base.specs.declared.kernels.Version.{Version}
 use Rattle.dc_base.specs.declared.kernels.Version.TheVariants as version
-use Rattle.dc_sound.proofs.EntryKinds.{outside_at, after_timers, sliced_of, Kind, IsSlice}
+use Rattle.dc_sound.proofs.EntryKinds.{got_by, after_timers, sliced_of, Kind, IsSlice}
 use Rattle.dc_sound.proofs.ControlRules.{ControlLaws, controls_kept}
 use Rattle.dc_sound.proofs.Elements.{is_same, same_is, other_is, same_or_not, set_here, set_other}
 
@@ -286,7 +286,7 @@ module _ (s : State) (chs : List Change) (e : Entry) where
   sliced i h =
       let fired = fired_ready i.k.clock i.offset i.x.control h in
       let x = after_timers i.k.clock i.offset i.x.control in
-      end_ready i.c i.b i.v i.d i.h (outside_at s i.b (need_of i.h)) (half_ready i.k.settings.quantum (time_on i.k.clock i.offset) (without_ready i.d x) i.d i.h (without_owes x i.d fired (picked_in i.v x.dues x.ready i.d i.picked)) i.halfway_at)
+      end_ready i.c i.b i.v i.d i.h (got_by s chs e i) (half_ready i.k.settings.quantum (time_on i.k.clock i.offset) (without_ready i.d x) i.d i.h (without_owes x i.d fired (picked_in i.v x.dues x.ready i.d i.picked)) i.halfway_at)
 
   laws : ControlLaws (λ b x. HasReady x) s chs e
   laws = record {

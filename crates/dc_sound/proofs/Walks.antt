@@ -1,5 +1,6 @@
 -- The changes of a control block that each kind of entry makes.
-use Rattle.std.proofs.Common.{◌≡◌, ℕ, zero, suc, ◌<◌, ◌≤◌, List, [], ◌∷◌, ◌++◌, Bool, true, false, Option, Some, None, refl, sym, ap, ◌∙◌, subst, arith, length}
+use Rattle.dc_base.specs.NeedsHere.{need_here}
+use Rattle.std.proofs.Common.{◌≡◌, ℕ, zero, suc, ◌<◌, ◌≤◌, List, [], ◌∷◌, ◌++◌, Bool, true, false, Option, Some, None, refl, sym, ap, ◌∙◌, subst, arith, length, inl, inr}
 use Rattle.std.specs.Prelude.{slice_get, slice_set, nat_lt, nat_le, ◌==◌, if◌then◌else◌, ⊤}
 use Rattle.std.proofs.lemmas.List.{set-set}
 use Rattle.dc_base.specs.declared.calls.Op.{Op}
@@ -28,12 +29,12 @@ use Rattle.dc_base.specs.Parts.{Parts, with_context}
 use Rattle.dc_base.specs.Serving.{need, Outside, nothing_outside, console_outside, channel_outside, line_outside, Served, faulted, served, serve, serve_send, serve_receive, serve_claim}
 use Rattle.dc_base.specs.Serving as serving
 use Rattle.dc_base.specs.Slices.{Halfway, stopped, stands, need_of, after_served, with_ahead, after_ahead, halfway, due_after, slice_end, without_ready}
-use Rattle.dc_base.specs.States.{State, time_on}
+use Rattle.dc_base.specs.States.{State, time_on, Settings}
 use Rattle.dc_base.specs.Steps.{as_console, as_channel, as_line}
 use Rattle.dc_base.specs.Timers.{is_sooner, sooner, soonest, if_due, due_timer}
 use Rattle.dc_base.specs.Wakes.{ready_again}
 use Rattle.dc_base.proofs.CodeLaws.{decode-some}
-use Rattle.dc_sound.proofs.EntryKinds.{outside_at, after_timers, IsSlice, sliced_of}
+use Rattle.dc_sound.proofs.EntryKinds.{outside_at, here_or_none, after_timers, IsSlice, got_by, sliced_of}
 use Rattle.dc_sound.proofs.Elements.{set_here}
 use Rattle.dc_sound.proofs.Ready.{fire_owes, ready_owes, owes_ready, picked_in}
 use Rattle.dc_base.specs.KeptByBlocks.{AllReady, is_ready}
@@ -264,6 +265,20 @@ module _ (s : State) (d : ℕ) (C : ℕ → Type 0) where
     serve_fits (gives l x rights p) allowed f = given_at l x rights p f.2 (slice_get s.lines l)
     serve_fits (claims l x slot p) allowed f = claimed_at l x slot p f allowed (slice_get s.lines l) refl
 
+    -- a call that gets nothing claims nothing
+    none_fits : (call : Call) → CallFits s C y d call → ServedFits y (serve c b call nothing_outside)
+    unfolding serve
+    none_fits (faults n) f = f
+    none_fits (waits w) f = f
+    none_fits (makes w p) f = f
+    none_fits (takes l p) f = f
+    none_fits (prints w p) f = (omega arith, omega arith)
+    none_fits (sends x m p) f = (f.0, f.2)
+    none_fits (receives x address p) f = (f.0, f.1)
+    none_fits (binds l signal p) f = (omega arith, omega arith)
+    none_fits (gives l x rights p) f = (omega arith, omega arith)
+    none_fits (claims l x slot p) f = (omega arith, omega arith)
+
     after_steps : (ran : ℕ) (o : Op) (n : Need) (out : Outside) (a : Served) → ServedFits y a → Steps s d C y (after_served y d ran o n out a).control
     after_steps ran o n out (faulted m) f = one s d C y _ (stands_still y (disp.Trapped m) f)
     after_steps ran o n out (serving.held_up w) f = one s d C y _ (held_up y w f)
@@ -280,6 +295,19 @@ module _ (s : State) (d : ℕ) (C : ℕ → Type 0) where
       let out = outside_at s b (need call) in
       let sl = after_served y d ran o (need call) out (serve c b call out) in
       joined s d C x y _ f.0 (joined s d C y sl.control _ (after_steps c b y ran o (need call) out (serve c b call out) (serve_fits c b y call allowed f.1)) (due_steps v sl.control))
+
+  pub end_without : (c b : ℕ) (v : Version) (x : ControlBlock) (h : Halfway) → HalfFits x h → Steps s d C x (slice_end c b v d h nothing_outside).control
+  unfolding slice_end
+  end_without c b v x (stopped y ran e) f = joined s d C x y _ f (due_steps v y)
+  end_without c b v x (stands y ran o call) f =
+      let sl = after_served y d ran o (need call) nothing_outside (serve c b call nothing_outside) in
+      joined s d C x y _ f.0 (joined s d C y sl.control _ (after_steps c b y ran o (need call) nothing_outside (serve c b call nothing_outside) (none_fits c b y call f.1)) (due_steps v sl.control))
+
+  end_here : (t : Settings) (c b : ℕ) (v : Version) (x : ControlBlock) (h : Halfway) → ((m : ℕ) → HalfClaims s h m → C m) → HalfFits x h → Steps s d C x (slice_end c b v d h (outside_at s b (need_here t (need_of h)))).control
+  end_here t c b v x h allowed f = elim (here_or_none t s b (need_of h)) [
+    | inl same ↦ subst (λ out. Steps s d C x (slice_end c b v d h out).control) (sym same) (end_steps c b v x h allowed f)
+    | inr gone ↦ subst (λ out. Steps s d C x (slice_end c b v d h out).control) (sym gone) (end_without c b v x h f)
+  ]
 
   pub again_steps : (x : ControlBlock) → Steps s d C x (ready_again d x)
   again_steps x = further x _ _ (stands_still x disp.Ready tt) (one s d C _ _ (readied _ _))
@@ -307,7 +335,7 @@ slice_steps s chs e i =
     let C = HalfClaims s i.h in
     let y = after_timers i.k.clock i.offset i.x.control in
     joined s i.d C i.x.control y _ (fire_steps s i.d C (time_on i.k.clock i.offset) i.x.control)
-    (further y (without_ready i.d y) _ (readied y _) (end_steps s i.d C i.c i.b i.v (without_ready i.d y) i.h (λ m f. f) (half_steps s i.d C i.k.settings.quantum (time_on i.k.clock i.offset) (without_ready i.d y) i.h (picked_ready s chs e i) i.halfway_at)))
+    (further y (without_ready i.d y) _ (readied y _) (end_here s i.d C i.k.settings i.c i.b i.v (without_ready i.d y) i.h (λ m f. f) (half_steps s i.d C i.k.settings.quantum (time_on i.k.clock i.offset) (without_ready i.d y) i.h (picked_ready s chs e i) i.halfway_at)))
 
 -- how the block came to the call at which the slice stands
 before_half : (s : State) (d : ℕ) (C : ℕ → Type 0) (x y : ControlBlock) → Steps s d C x y → (h : Halfway) → HalfFits s d C y h → HalfFits s d C x h
@@ -319,3 +347,8 @@ slice_half s chs e i C =
     let y = after_timers i.k.clock i.offset i.x.control in
     let first : Steps s i.d C i.x.control (without_ready i.d y) = last s i.d C i.x.control y _ (fire_steps s i.d C (time_on i.k.clock i.offset) i.x.control) (readied y _) in
     before_half s i.d C i.x.control (without_ready i.d y) first i.h (half_steps s i.d C i.k.settings.quantum (time_on i.k.clock i.offset) (without_ready i.d y) i.h (picked_ready s chs e i) i.halfway_at)
+
+-- it claims nothing where its call got nothing
+pub slice_without : (s : State) (chs : List Change) (e : Entry) (i : IsSlice s chs e) (C : ℕ → Type 0) → got_by s chs e i ≡ nothing_outside → Steps s i.d C i.x.control (sliced_of s chs e i).control
+slice_without s chs e i C got =
+    subst (λ out. Steps s i.d C i.x.control (slice_end i.c i.b i.v i.d i.h out).control) (sym got) (end_without s i.d C i.c i.b i.v i.x.control i.h (slice_half s chs e i C))
