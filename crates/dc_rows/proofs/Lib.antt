@@ -4,6 +4,7 @@ mod ArmedTimerStays
 mod BlockCatchesUpWithAdopter
 mod BudgetSpentAroundHandover
 mod ClaimBeforeOffer
+mod ClaimOfNoLine
 mod CoreOff
 mod EightCores
 mod EmptySchedule
@@ -28,6 +29,7 @@ mod RaiseAmidMove3
 mod RaiseAmidMove4
 mod RaiseAmidMove5
 mod RaisesDuringMove
+mod RandomClaims
 mod RandomMachine01
 mod RandomMachine02
 mod RandomMachine03
