@@ -1,5 +1,5 @@
 -- A random machine, of seed 20023.
--- Made by tools/worked_examples.py from examples/RandomMachine12.
+-- Made by tools/worked_examples.py from examples/RandomMachine7.
 use Rattle.std.specs.Prelude.{◌≡◌, ℕ, List, [], ◌∷◌, refl, true, false, None, Some}
 use Rattle.std.specs.Option.{option_map}
 use Rattle.dc_base.specs.declared.images.Image.{Image}

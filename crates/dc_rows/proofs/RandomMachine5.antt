@@ -1,5 +1,5 @@
 -- A random machine, of seed 20021.
--- Made by tools/worked_examples.py from examples/RandomMachine10.
+-- Made by tools/worked_examples.py from examples/RandomMachine5.
 use Rattle.std.specs.Prelude.{◌≡◌, ℕ, List, [], ◌∷◌, refl, true, None, Some}
 use Rattle.std.specs.Option.{option_map}
 use Rattle.dc_base.specs.declared.images.Image.{Image}

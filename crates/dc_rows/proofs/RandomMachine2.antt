@@ -1,5 +1,5 @@
 -- A random machine, of seed 20008.
--- Made by tools/worked_examples.py from examples/RandomMachine05.
+-- Made by tools/worked_examples.py from examples/RandomMachine2.
 use Rattle.std.specs.Prelude.{◌≡◌, ℕ, List, [], ◌∷◌, refl, true, false, None, Some}
 use Rattle.std.specs.Option.{option_map}
 use Rattle.dc_base.specs.declared.images.Image.{Image}

@@ -1,5 +1,5 @@
 -- A random machine, of seed 20017.
--- Made by tools/worked_examples.py from examples/RandomMachine09.
+-- Made by tools/worked_examples.py from examples/RandomMachine4.
 use Rattle.std.specs.Prelude.{◌≡◌, ℕ, List, [], ◌∷◌, refl, true, None, Some}
 use Rattle.std.specs.Option.{option_map}
 use Rattle.dc_base.specs.declared.images.Image.{Image}

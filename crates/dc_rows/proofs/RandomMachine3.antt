@@ -1,5 +1,5 @@
 -- A random machine, of seed 20009.
--- Made by tools/worked_examples.py from examples/RandomMachine06.
+-- Made by tools/worked_examples.py from examples/RandomMachine3.
 use Rattle.std.specs.Prelude.{◌≡◌, ℕ, List, [], ◌∷◌, refl, true, None, Some}
 use Rattle.std.specs.Option.{option_map}
 use Rattle.dc_base.specs.declared.images.Image.{Image}
