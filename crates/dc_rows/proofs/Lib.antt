@@ -8,8 +8,10 @@ mod ClaimOfNoLine
 mod CoreOff
 mod EightCores
 mod EmptySchedule
+mod EntryRows
 mod FullChannel
 mod FullPort
+mod GeneratedRows
 mod HomeAndParkedTakeTurns
 mod HomeTaken
 mod KeptClocks
@@ -20,6 +22,7 @@ mod OneWordAndHalt
 mod ParkAndUnpark
 mod PlacePastCode
 mod PlacePastCodeAtQuantum
+mod ProgramRows
 mod QuantumOne
 mod QuantumSixtyFour
 mod RaiseAmidMove0
@@ -39,11 +42,13 @@ mod RandomMachine6
 mod RandomMachine7
 mod ReplacedByEarliestDue
 mod ReplacedWhileWaiting
+mod ReportRows
 mod RetypeBesideChild
 mod RetypeMeetsChild
 mod RevokeEmptiesGrandchildren
 mod RunningClocksBehind
 mod SameVersion
+mod ScriptRows
 mod SixtyFifthTimer
 mod SoundAmidMove
 mod SoundWithPendingRaise

@@ -37,6 +37,12 @@ use Rattle.dc_base.specs.Objects as objects_
 use Rattle.dc_base.specs.EntryText as entrytext_
 use Rattle.dc_base.specs.ReportText as reporttext_
 use Rattle.dc_base.specs.PlayText as playtext_
+use Rattle.dc_base.specs.TextWords as textwords_
+use Rattle.dc_base.specs.ScriptText as scripttext_
+use Rattle.dc_base.specs.JournalText as journaltext_
+use Rattle.dc_base.specs.EntryRanges as entryranges_
+use Rattle.dc_base.specs.ProgramText as programtext_
+use Rattle.dc_base.specs.Operations as operations_
 
 -- what both machines are computed by
 unfoldable pub shared_parts : Unit {0}
@@ -71,3 +77,21 @@ unfoldable pub whole_texts : Unit {0}
 unfolding entrytext_.entry_text entrytext_.journal_text reporttext_.report_line_text reporttext_.report_text playtext_.played_text playtext_.play_text
     playtext_.summary_of playtext_.gen_text digits
 whole_texts = tt
+
+-- what scripts and schedules are read by
+unfoldable pub read_scripts : Unit {0}
+unfolding scripttext_.script_of scripttext_.schedule_of scripttext_.text_read scripttext_.script_line scripttext_.schedule_line
+    scripttext_.command_of scripttext_.core_action_line scripttext_.read_core scripttext_.read_block scripttext_.read_line scripttext_.read_disp
+    scripttext_.read_version scripttext_.number_within scripttext_.number_below textwords_.number_of
+read_scripts = tt
+
+-- what journals are read by
+unfoldable pub read_journals : Unit {0}
+unfolding journaltext_.journal_of journaltext_.entry_of journaltext_.candidate journaltext_.core_what journaltext_.script_what
+    entrytext_.entry_text entryranges_.has_line digits
+read_journals = tt
+
+-- what texts of code are assembled by
+unfoldable pub assembled_code : Unit {0}
+unfolding programtext_.program_of programtext_.word_of operations_.operations textwords_.number_of digits
+assembled_code = tt
