@@ -1,11 +1,7 @@
 -- A budget spent round a handover.
-use Rattle.std.specs.Prelude.{◌≡◌, ℕ, List, [], ◌∷◌, ◌++◌, codes, refl, true, false, Some, None}
+-- Made by tools/worked_examples.py from examples/BudgetSpentAroundHandover.
+use Rattle.std.specs.Prelude.{◌≡◌, ℕ, List, [], ◌∷◌, refl, true, false, None, Some}
 use Rattle.std.specs.Option.{option_map}
-use Rattle.dc_rows.specs.Facts.{facts_told, facts_of}
-use Rattle.dc_rows.specs.Tabled.{tabled}
-use Rattle.dc_rows.specs.Computed.{machine_of_blocks, machine_with_cores, whole_texts}
-use Rattle.dc_base.specs.Runs.{run}
-use Rattle.dc_base.specs.CoreRuns.{core_run}
 use Rattle.dc_base.specs.declared.images.Image.{Image}
 use Rattle.dc_base.specs.declared.kernels.Version.TheVariants.{Rr}
 use Rattle.dc_base.specs.declared.kernels.Clocks.TheVariants.{Kept}
@@ -13,18 +9,23 @@ use Rattle.dc_base.specs.declared.actions.Actor.{Actor}
 use Rattle.dc_base.specs.declared.actions.Action.{Action}
 use Rattle.dc_base.specs.declared.calls.End.TheVariants as end
 use Rattle.dc_base.specs.declared.commands.ScriptLine.{ScriptLine}
-use Rattle.dc_base.specs.declared.commands.ScriptLine.TheVariants as lines
-use Rattle.dc_base.specs.declared.commands.Command.TheVariants as command
-use Rattle.dc_base.specs.declared.commands.Order.TheVariants as order
 use Rattle.dc_base.specs.declared.entries.Entry.{Entry}
-use Rattle.dc_rows.specs.Texts as texts
 use Rattle.dc_base.specs.declared.reports.ReportLine.{ReportLine}
-use Rattle.dc_base.specs.declared.reports.ReportLine.TheVariants as rl
-use Rattle.dc_base.specs.declared.dispatchers.DispState.TheVariants as ds
-use Rattle.dc_rows.specs.Played.{played, judged, first_bads}
-use Rattle.dc_base.specs.TextWords.{ended}
+use Rattle.dc_base.specs.declared.dispatchers.DispState.TheVariants as state
+use Rattle.dc_base.specs.Runs.{run}
+use Rattle.dc_base.specs.CoreRuns.{core_run}
 use Rattle.dc_base.specs.Shown.{all_shown_by}
 use Rattle.dc_base.specs.Headline.{blocks_reported, blocks_held}
+use Rattle.dc_rows.specs.Computed.{machine_of_blocks, machine_with_cores, whole_texts}
+use Rattle.dc_rows.specs.Facts.{facts_told, facts_of}
+use Rattle.dc_rows.specs.Images as image_of
+use Rattle.dc_rows.specs.Orders as order
+use Rattle.dc_rows.specs.Played.{played, judged, first_bads}
+use Rattle.dc_rows.specs.Reports as report_line
+use Rattle.dc_rows.specs.Scripts as script_line
+use Rattle.dc_rows.specs.Tabled.{tabled}
+use Rattle.dc_rows.specs.Texts as texts
+use Rattle.dc_rows.specs.WrongJournals.{with_line, line_added}
 
 abbrev image : Image
 image = record {
@@ -33,36 +34,81 @@ image = record {
   quantum = 1;
   slices = 1;
   lines = 0;
-  cores = (record { base = 0; version = Some Rr } ∷ record { base = 0; version = Some Rr } ∷ []);
-  blocks = (record {
-    home = Some (record { 0 = 0 });
-    memory = [];
-    ports = 0;
-    signals = 0;
-    disps = (record { code = (251658240 ∷ []); period = 1; due = 0; caps = [] } ∷ []);
-  } ∷ []);
+  cores =
+      image_of.core 0 Rr ∷ image_of.core 0 Rr ∷ [];
+  blocks =
+      record {
+        home = image_of.home 0;
+        memory = [];
+        ports = 0;
+        signals = 0;
+        disps =
+            record {
+              code =
+                  251658240  -- jmp 0
+                  ∷ [];
+              period = 1;
+              due = 0;
+              caps = [];
+            }
+            ∷ [];
+      }
+      ∷ [];
   channels = [];
 }
 
 abbrev script : List ScriptLine
-script = (lines.Boot (command.Move (record { 0 = 0 }) (record { 0 = 1 })) ∷ [])
+script =
+    script_line.move 0 1 ∷ []
 
 abbrev schedule : List (Actor × Action)
-schedule = (texts.step 0 ∷ texts.step 0 ∷ texts.script ∷ texts.order 0 ∷ texts.script ∷ texts.order 1 ∷ texts.script ∷ texts.step 1 ∷ texts.step 1 ∷ [])
+schedule =
+    texts.step 0 ∷ texts.step 0 ∷ texts.script ∷ texts.order 0 ∷ texts.script ∷ texts.order 1 ∷ texts.script ∷ texts.step 1 ∷ texts.step 1 ∷ []
 
 abbrev journal : List Entry
-journal = (texts.slice 0 0 0 0 1 end.Quantum 1 ∷ texts.post 0 0 (order.Release (record { 0 = 0 })) ∷ texts.release 0 0 1 ∷ texts.post 0 1 (order.Adopt (record { 0 = 0 }) false) ∷ texts.adopt 1 0 false 1 ∷ texts.done 0 ∷ texts.slice 1 0 0 0 1 end.Quantum 1 ∷ [])
+journal =
+    texts.slice 0 0 0 0 1 end.Quantum 1
+    ∷ texts.post 0 0 (order.release 0)
+    ∷ texts.release 0 0 1
+    ∷ texts.post 0 1 (order.adopt 0 false)
+    ∷ texts.adopt 1 0 false 1
+    ∷ texts.done 0
+    ∷ texts.slice 1 0 0 0 1 end.Quantum 1
+    ∷ []
 
 abbrev report : List ReportLine
-report = (rl.CoreOn (record { 0 = 0 }) Rr 1 None (record { items = [] }) 1 ∷ rl.CoreOn (record { 0 = 1 }) Rr 1 (Some (record { 0 = 0 })) (record { items = ((record { 0 = 0 }) ∷ []) }) 1 ∷ rl.Block (record { 0 = 0 }) (Some (record { 0 = 1 })) 2 0 ∷ rl.Disp (record { 0 = 0 }) (record { 0 = 0 }) ds.Ready 0 0 ∷ rl.Ready (record { 0 = 0 }) (record { items = ((record { 0 = 0 }) ∷ []) }) ∷ [])
+report =
+    report_line.core_on 0 Rr 1 None [] 1
+    ∷ report_line.core_on 1 Rr 1 (Some 0) (0 ∷ []) 1
+    ∷ report_line.block 0 (Some 1) 2 0
+    ∷ report_line.disp 0 0 state.Ready 0 0
+    ∷ report_line.ready 0 (0 ∷ [])
+    ∷ []
 
 abbrev text : List ℕ
-text = ended (codes "0 core 0 slice 0 0 fired 0 ran 1 quantum clock 1") ++ ended (codes "1 script 0 post 0 release 0") ++ ended (codes "2 core 0 release 0 time 1") ++ ended (codes "3 script 0 post 1 adopt 0 home") ++ ended (codes "4 core 1 adopt 0 home time 1") ++ ended (codes "5 script 0 done") ++ ended (codes "6 core 1 slice 0 0 fired 0 ran 1 quantum clock 1") ++ ended (codes "report") ++ ended (codes "core 0 on rr clock 1 home - share - used 1") ++ ended (codes "core 1 on rr clock 1 home 0 share 0 used 1") ++ ended (codes "block 0 core 1 time 2 armed 0") ++ ended (codes "disp 0 0 ready place 0 due 0") ++ ended (codes "ready 0 0") ++ ended (codes "skipped 2") ++ ended (codes "end")
+text = texts.lines (
+    "0 core 0 slice 0 0 fired 0 ran 1 quantum clock 1"
+    ∷ "1 script 0 post 0 release 0"
+    ∷ "2 core 0 release 0 time 1"
+    ∷ "3 script 0 post 1 adopt 0 home"
+    ∷ "4 core 1 adopt 0 home time 1"
+    ∷ "5 script 0 done"
+    ∷ "6 core 1 slice 0 0 fired 0 ran 1 quantum clock 1"
+    ∷ "report"
+    ∷ "core 0 on rr clock 1 home - share - used 1"
+    ∷ "core 1 on rr clock 1 home 0 share 0 used 1"
+    ∷ "block 0 core 1 time 2 armed 0"
+    ∷ "disp 0 0 ready place 0 due 0"
+    ∷ "ready 0 0"
+    ∷ "skipped 2"
+    ∷ "end"
+    ∷ [])
 
 is_played : played image script schedule ≡ record {
   journal = journal;
   skipped = 2;
-  reasons = (None ∷ None ∷ []);
+  reasons =
+      None ∷ None ∷ [];
   report = report;
   text = text;
   again = journal;
@@ -85,11 +131,16 @@ unfolding machine_of_blocks
 is_none_lost = refl
 
 -- the journal has told what the state shows
-is_told : option_map facts_told (run image script journal) ≡ option_map (facts_of (core_run image script schedule).state) (run image script journal)
+is_told : option_map facts_told (run image script journal)
+    ≡ option_map (facts_of (core_run image script schedule).state) (run image script journal)
 unfolding machine_with_cores machine_of_blocks
 is_told = refl
 
--- journals with a word changed, and the first bad entry of each
-are_changed : first_bads image script ((texts.slice 0 0 0 0 1 end.Quantum 1 ∷ texts.post 0 0 (order.Release (record { 0 = 0 })) ∷ texts.release 0 0 1 ∷ texts.post 0 1 (order.Adopt (record { 0 = 0 }) false) ∷ texts.adopt 1 0 false 1 ∷ texts.post 0 0 (order.Release (record { 0 = 0 })) ∷ texts.done 0 ∷ texts.slice 1 0 0 0 1 end.Quantum 1 ∷ []) ∷ (texts.slice 0 0 0 2 1 end.Quantum 1 ∷ texts.post 0 0 (order.Release (record { 0 = 0 })) ∷ texts.release 0 0 1 ∷ texts.post 0 1 (order.Adopt (record { 0 = 0 }) false) ∷ texts.adopt 1 0 false 1 ∷ texts.done 0 ∷ texts.slice 1 0 0 0 1 end.Quantum 1 ∷ []) ∷ []) ≡ Some 5 ∷ Some 0 ∷ []
+-- journals that are changed, and the first bad entry of each
+are_changed : first_bads image script (
+    line_added 5 (texts.post 0 0 (order.release 0)) journal
+    ∷ with_line 0 (texts.slice 0 0 0 2 1 end.Quantum 1) journal
+    ∷ [])
+    ≡ Some 5 ∷ Some 0 ∷ []
 unfolding machine_of_blocks
 are_changed = refl

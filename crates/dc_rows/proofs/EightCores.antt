@@ -1,11 +1,7 @@
 -- Just enough slices for eight cores.
-use Rattle.std.specs.Prelude.{◌≡◌, ℕ, List, [], ◌∷◌, ◌++◌, codes, refl, true, Some, None}
+-- Made by tools/worked_examples.py from examples/EightCores.
+use Rattle.std.specs.Prelude.{◌≡◌, ℕ, List, [], ◌∷◌, refl, true, None, Some}
 use Rattle.std.specs.Option.{option_map}
-use Rattle.dc_rows.specs.Facts.{facts_told, facts_of}
-use Rattle.dc_rows.specs.Tabled.{tabled}
-use Rattle.dc_rows.specs.Computed.{machine_of_blocks, machine_with_cores, whole_texts}
-use Rattle.dc_base.specs.Runs.{run}
-use Rattle.dc_base.specs.CoreRuns.{core_run}
 use Rattle.dc_base.specs.declared.images.Image.{Image}
 use Rattle.dc_base.specs.declared.kernels.Version.TheVariants.{Rr}
 use Rattle.dc_base.specs.declared.kernels.Clocks.TheVariants.{Kept}
@@ -14,12 +10,18 @@ use Rattle.dc_base.specs.declared.actions.Action.{Action}
 use Rattle.dc_base.specs.declared.commands.ScriptLine.{ScriptLine}
 use Rattle.dc_base.specs.declared.entries.Entry.{Entry}
 use Rattle.dc_base.specs.declared.reports.ReportLine.{ReportLine}
-use Rattle.dc_base.specs.declared.reports.ReportLine.TheVariants as rl
-use Rattle.dc_base.specs.declared.dispatchers.DispState.TheVariants as ds
-use Rattle.dc_rows.specs.Played.{played, judged}
-use Rattle.dc_base.specs.TextWords.{ended}
+use Rattle.dc_base.specs.declared.dispatchers.DispState.TheVariants as state
+use Rattle.dc_base.specs.Runs.{run}
+use Rattle.dc_base.specs.CoreRuns.{core_run}
 use Rattle.dc_base.specs.Shown.{all_shown_by}
 use Rattle.dc_base.specs.Headline.{blocks_reported, blocks_held}
+use Rattle.dc_rows.specs.Computed.{machine_of_blocks, machine_with_cores, whole_texts}
+use Rattle.dc_rows.specs.Facts.{facts_told, facts_of}
+use Rattle.dc_rows.specs.Images as image_of
+use Rattle.dc_rows.specs.Played.{played, judged}
+use Rattle.dc_rows.specs.Reports as report_line
+use Rattle.dc_rows.specs.Tabled.{tabled}
+use Rattle.dc_rows.specs.Texts as texts
 
 abbrev image : Image
 image = record {
@@ -28,14 +30,29 @@ image = record {
   quantum = 4;
   slices = 30208;
   lines = 0;
-  cores = (record { base = 0; version = Some Rr } ∷ record { base = 0; version = Some Rr } ∷ record { base = 0; version = Some Rr } ∷ record { base = 0; version = Some Rr } ∷ record { base = 0; version = Some Rr } ∷ record { base = 0; version = Some Rr } ∷ record { base = 0; version = Some Rr } ∷ record { base = 0; version = Some Rr } ∷ []);
-  blocks = (record {
-    home = Some (record { 0 = 0 });
-    memory = [];
-    ports = 0;
-    signals = 0;
-    disps = (record { code = (16777223 ∷ 536870912 ∷ 335544320 ∷ []); period = 1; due = 0; caps = [] } ∷ []);
-  } ∷ []);
+  cores =
+      image_of.core 0 Rr ∷ image_of.core 0 Rr ∷ image_of.core 0 Rr ∷ image_of.core 0 Rr ∷ image_of.core 0 Rr ∷ image_of.core 0 Rr ∷ image_of.core 0 Rr
+      ∷ image_of.core 0 Rr ∷ [];
+  blocks =
+      record {
+        home = image_of.home 0;
+        memory = [];
+        ports = 0;
+        signals = 0;
+        disps =
+            record {
+              code =
+                  16777223  -- li r0 7
+                  ∷ 536870912  -- out r0
+                  ∷ 335544320  -- halt
+                  ∷ [];
+              period = 1;
+              due = 0;
+              caps = [];
+            }
+            ∷ [];
+      }
+      ∷ [];
   channels = [];
 }
 
@@ -49,10 +66,37 @@ abbrev journal : List Entry
 journal = []
 
 abbrev report : List ReportLine
-report = (rl.CoreOn (record { 0 = 0 }) Rr 0 (Some (record { 0 = 0 })) (record { items = ((record { 0 = 0 }) ∷ []) }) 0 ∷ rl.CoreOn (record { 0 = 1 }) Rr 0 None (record { items = [] }) 0 ∷ rl.CoreOn (record { 0 = 2 }) Rr 0 None (record { items = [] }) 0 ∷ rl.CoreOn (record { 0 = 3 }) Rr 0 None (record { items = [] }) 0 ∷ rl.CoreOn (record { 0 = 4 }) Rr 0 None (record { items = [] }) 0 ∷ rl.CoreOn (record { 0 = 5 }) Rr 0 None (record { items = [] }) 0 ∷ rl.CoreOn (record { 0 = 6 }) Rr 0 None (record { items = [] }) 0 ∷ rl.CoreOn (record { 0 = 7 }) Rr 0 None (record { items = [] }) 0 ∷ rl.Block (record { 0 = 0 }) (Some (record { 0 = 0 })) 0 0 ∷ rl.Disp (record { 0 = 0 }) (record { 0 = 0 }) ds.Ready 0 0 ∷ rl.Ready (record { 0 = 0 }) (record { items = ((record { 0 = 0 }) ∷ []) }) ∷ [])
+report =
+    report_line.core_on 0 Rr 0 (Some 0) (0 ∷ []) 0
+    ∷ report_line.core_on 1 Rr 0 None [] 0
+    ∷ report_line.core_on 2 Rr 0 None [] 0
+    ∷ report_line.core_on 3 Rr 0 None [] 0
+    ∷ report_line.core_on 4 Rr 0 None [] 0
+    ∷ report_line.core_on 5 Rr 0 None [] 0
+    ∷ report_line.core_on 6 Rr 0 None [] 0
+    ∷ report_line.core_on 7 Rr 0 None [] 0
+    ∷ report_line.block 0 (Some 0) 0 0
+    ∷ report_line.disp 0 0 state.Ready 0 0
+    ∷ report_line.ready 0 (0 ∷ [])
+    ∷ []
 
 abbrev text : List ℕ
-text = ended (codes "report") ++ ended (codes "core 0 on rr clock 0 home 0 share 0 used 0") ++ ended (codes "core 1 on rr clock 0 home - share - used 0") ++ ended (codes "core 2 on rr clock 0 home - share - used 0") ++ ended (codes "core 3 on rr clock 0 home - share - used 0") ++ ended (codes "core 4 on rr clock 0 home - share - used 0") ++ ended (codes "core 5 on rr clock 0 home - share - used 0") ++ ended (codes "core 6 on rr clock 0 home - share - used 0") ++ ended (codes "core 7 on rr clock 0 home - share - used 0") ++ ended (codes "block 0 core 0 time 0 armed 0") ++ ended (codes "disp 0 0 ready place 0 due 0") ++ ended (codes "ready 0 0") ++ ended (codes "skipped 0") ++ ended (codes "end")
+text = texts.lines (
+    "report"
+    ∷ "core 0 on rr clock 0 home 0 share 0 used 0"
+    ∷ "core 1 on rr clock 0 home - share - used 0"
+    ∷ "core 2 on rr clock 0 home - share - used 0"
+    ∷ "core 3 on rr clock 0 home - share - used 0"
+    ∷ "core 4 on rr clock 0 home - share - used 0"
+    ∷ "core 5 on rr clock 0 home - share - used 0"
+    ∷ "core 6 on rr clock 0 home - share - used 0"
+    ∷ "core 7 on rr clock 0 home - share - used 0"
+    ∷ "block 0 core 0 time 0 armed 0"
+    ∷ "disp 0 0 ready place 0 due 0"
+    ∷ "ready 0 0"
+    ∷ "skipped 0"
+    ∷ "end"
+    ∷ [])
 
 is_played : played image script schedule ≡ record {
   journal = journal;
@@ -80,6 +124,7 @@ unfolding machine_of_blocks
 is_none_lost = refl
 
 -- the journal has told what the state shows
-is_told : option_map facts_told (run image script journal) ≡ option_map (facts_of (core_run image script schedule).state) (run image script journal)
+is_told : option_map facts_told (run image script journal)
+    ≡ option_map (facts_of (core_run image script schedule).state) (run image script journal)
 unfolding machine_with_cores machine_of_blocks
 is_told = refl

@@ -1,13 +1,8 @@
 -- A full port makes its sender wait.
-use Rattle.std.specs.Prelude.{◌≡◌, ℕ, List, [], ◌∷◌, ◌++◌, codes, refl, true, Some, None}
+-- Made by tools/worked_examples.py from examples/FullPort.
+use Rattle.std.specs.Prelude.{◌≡◌, ℕ, List, [], ◌∷◌, refl, true, None, Some}
 use Rattle.std.specs.Option.{option_map}
-use Rattle.dc_rows.specs.Facts.{facts_told, facts_of}
-use Rattle.dc_rows.specs.Tabled.{tabled}
-use Rattle.dc_rows.specs.Computed.{machine_of_blocks, machine_with_cores, whole_texts}
-use Rattle.dc_base.specs.Runs.{run}
-use Rattle.dc_base.specs.CoreRuns.{core_run}
 use Rattle.dc_base.specs.declared.images.Image.{Image}
-use Rattle.dc_base.specs.declared.capabilities.CapKind.TheVariants as kind
 use Rattle.dc_base.specs.declared.kernels.Version.TheVariants.{Rr}
 use Rattle.dc_base.specs.declared.kernels.Clocks.TheVariants.{Kept}
 use Rattle.dc_base.specs.declared.actions.Actor.{Actor}
@@ -16,15 +11,19 @@ use Rattle.dc_base.specs.declared.calls.Op.TheVariants as op
 use Rattle.dc_base.specs.declared.calls.End.TheVariants as end
 use Rattle.dc_base.specs.declared.commands.ScriptLine.{ScriptLine}
 use Rattle.dc_base.specs.declared.entries.Entry.{Entry}
-use Rattle.dc_rows.specs.Texts as texts
 use Rattle.dc_base.specs.declared.reports.ReportLine.{ReportLine}
-use Rattle.dc_base.specs.declared.reports.ReportLine.TheVariants as rl
-use Rattle.dc_base.specs.declared.dispatchers.DispState.TheVariants as ds
-use Rattle.dc_base.specs.declared.dispatchers.Wait.TheVariants as wt
-use Rattle.dc_rows.specs.Played.{played, judged, first_bads}
-use Rattle.dc_base.specs.TextWords.{ended}
+use Rattle.dc_base.specs.Runs.{run}
+use Rattle.dc_base.specs.CoreRuns.{core_run}
 use Rattle.dc_base.specs.Shown.{all_shown_by}
 use Rattle.dc_base.specs.Headline.{blocks_reported, blocks_held}
+use Rattle.dc_rows.specs.Computed.{machine_of_blocks, machine_with_cores, whole_texts}
+use Rattle.dc_rows.specs.Facts.{facts_told, facts_of}
+use Rattle.dc_rows.specs.Images as image_of
+use Rattle.dc_rows.specs.Played.{played, judged, first_bads}
+use Rattle.dc_rows.specs.Reports as report_line
+use Rattle.dc_rows.specs.Tabled.{tabled}
+use Rattle.dc_rows.specs.Texts as texts
+use Rattle.dc_rows.specs.WrongJournals.{with_line, without_line}
 
 abbrev image : Image
 image = record {
@@ -33,14 +32,28 @@ image = record {
   quantum = 1;
   slices = 100;
   lines = 0;
-  cores = (record { base = 0; version = Some Rr } ∷ []);
-  blocks = (record {
-    home = Some (record { 0 = 0 });
-    memory = [];
-    ports = 1;
-    signals = 0;
-    disps = (record { code = (570490880 ∷ 251658240 ∷ []); period = 1; due = 0; caps = (record { slot = 0; cap = record { kind = kind.Port (record { 0 = 0 }); rights = 7 } } ∷ record { slot = 1; cap = record { kind = kind.Frame 0 4; rights = 7 } } ∷ []) } ∷ []);
-  } ∷ []);
+  cores =
+      image_of.core 0 Rr ∷ [];
+  blocks =
+      record {
+        home = image_of.home 0;
+        memory = [];
+        ports = 1;
+        signals = 0;
+        disps =
+            record {
+              code =
+                  570490880  -- send s0 s1 0
+                  ∷ 251658240  -- jmp 0
+                  ∷ [];
+              period = 1;
+              due = 0;
+              caps =
+                  image_of.cap 0 (image_of.port 0) 7 ∷ image_of.cap 1 (image_of.frame 0 4) 7 ∷ [];
+            }
+            ∷ [];
+      }
+      ∷ [];
   channels = [];
 }
 
@@ -48,16 +61,69 @@ abbrev script : List ScriptLine
 script = []
 
 abbrev schedule : List (Actor × Action)
-schedule = (texts.step 0 ∷ texts.step 0 ∷ texts.step 0 ∷ texts.step 0 ∷ texts.step 0 ∷ texts.step 0 ∷ texts.step 0 ∷ texts.step 0 ∷ texts.step 0 ∷ [])
+schedule =
+    texts.step 0 ∷ texts.step 0 ∷ texts.step 0 ∷ texts.step 0 ∷ texts.step 0 ∷ texts.step 0 ∷ texts.step 0 ∷ texts.step 0 ∷ texts.step 0 ∷ []
 
 abbrev journal : List Entry
-journal = (texts.slice 0 0 0 0 0 (end.Call op.Send) 1 ∷ texts.slice 0 0 0 0 1 (end.Call op.Send) 3 ∷ texts.slice 0 0 0 0 1 (end.Call op.Send) 5 ∷ texts.slice 0 0 0 0 1 (end.Call op.Send) 7 ∷ texts.slice 0 0 0 0 1 (end.Call op.Send) 9 ∷ texts.slice 0 0 0 0 1 (end.Call op.Send) 11 ∷ texts.slice 0 0 0 0 1 (end.Call op.Send) 13 ∷ texts.slice 0 0 0 0 1 (end.Call op.Send) 15 ∷ texts.slice 0 0 0 0 1 (end.Hold op.Send) 16 ∷ [])
+journal =
+    texts.slice 0 0 0 0 0 (end.Call op.Send) 1
+    ∷ texts.slice 0 0 0 0 1 (end.Call op.Send) 3
+    ∷ texts.slice 0 0 0 0 1 (end.Call op.Send) 5
+    ∷ texts.slice 0 0 0 0 1 (end.Call op.Send) 7
+    ∷ texts.slice 0 0 0 0 1 (end.Call op.Send) 9
+    ∷ texts.slice 0 0 0 0 1 (end.Call op.Send) 11
+    ∷ texts.slice 0 0 0 0 1 (end.Call op.Send) 13
+    ∷ texts.slice 0 0 0 0 1 (end.Call op.Send) 15
+    ∷ texts.slice 0 0 0 0 1 (end.Hold op.Send) 16
+    ∷ []
 
 abbrev report : List ReportLine
-report = (rl.CoreOn (record { 0 = 0 }) Rr 16 (Some (record { 0 = 0 })) (record { items = ((record { 0 = 0 }) ∷ []) }) 9 ∷ rl.Block (record { 0 = 0 }) (Some (record { 0 = 0 })) 16 0 ∷ rl.Disp (record { 0 = 0 }) (record { 0 = 0 }) (ds.Waits (wt.Send (record { 0 = 0 }))) 0 0 ∷ rl.Ready (record { 0 = 0 }) (record { items = [] }) ∷ rl.Cap (record { 0 = 0 }) (record { 0 = 0 }) (record { kind = kind.Port (record { 0 = 0 }); rights = 7 }) None ∷ rl.Cap (record { 0 = 0 }) (record { 0 = 1 }) (record { kind = kind.Frame 0 4; rights = 7 }) None ∷ rl.PortMessage (record { 0 = 0 }) (record { 0 = 0 }) (record { 0 = (0 ∷ 0 ∷ 0 ∷ 0 ∷ []) }) ∷ rl.PortMessage (record { 0 = 0 }) (record { 0 = 0 }) (record { 0 = (0 ∷ 0 ∷ 0 ∷ 0 ∷ []) }) ∷ rl.PortMessage (record { 0 = 0 }) (record { 0 = 0 }) (record { 0 = (0 ∷ 0 ∷ 0 ∷ 0 ∷ []) }) ∷ rl.PortMessage (record { 0 = 0 }) (record { 0 = 0 }) (record { 0 = (0 ∷ 0 ∷ 0 ∷ 0 ∷ []) }) ∷ rl.PortMessage (record { 0 = 0 }) (record { 0 = 0 }) (record { 0 = (0 ∷ 0 ∷ 0 ∷ 0 ∷ []) }) ∷ rl.PortMessage (record { 0 = 0 }) (record { 0 = 0 }) (record { 0 = (0 ∷ 0 ∷ 0 ∷ 0 ∷ []) }) ∷ rl.PortMessage (record { 0 = 0 }) (record { 0 = 0 }) (record { 0 = (0 ∷ 0 ∷ 0 ∷ 0 ∷ []) }) ∷ rl.PortMessage (record { 0 = 0 }) (record { 0 = 0 }) (record { 0 = (0 ∷ 0 ∷ 0 ∷ 0 ∷ []) }) ∷ [])
+report =
+    report_line.core_on 0 Rr 16 (Some 0) (0 ∷ []) 9
+    ∷ report_line.block 0 (Some 0) 16 0
+    ∷ report_line.disp 0 0 (report_line.waits_send 0) 0 0
+    ∷ report_line.ready 0 []
+    ∷ report_line.cap 0 0 (image_of.port 0) 7 None
+    ∷ report_line.cap 0 1 (image_of.frame 0 4) 7 None
+    ∷ report_line.port 0 0 0 0 0 0
+    ∷ report_line.port 0 0 0 0 0 0
+    ∷ report_line.port 0 0 0 0 0 0
+    ∷ report_line.port 0 0 0 0 0 0
+    ∷ report_line.port 0 0 0 0 0 0
+    ∷ report_line.port 0 0 0 0 0 0
+    ∷ report_line.port 0 0 0 0 0 0
+    ∷ report_line.port 0 0 0 0 0 0
+    ∷ []
 
 abbrev text : List ℕ
-text = ended (codes "0 core 0 slice 0 0 fired 0 ran 0 call send clock 1") ++ ended (codes "1 core 0 slice 0 0 fired 0 ran 1 call send clock 3") ++ ended (codes "2 core 0 slice 0 0 fired 0 ran 1 call send clock 5") ++ ended (codes "3 core 0 slice 0 0 fired 0 ran 1 call send clock 7") ++ ended (codes "4 core 0 slice 0 0 fired 0 ran 1 call send clock 9") ++ ended (codes "5 core 0 slice 0 0 fired 0 ran 1 call send clock 11") ++ ended (codes "6 core 0 slice 0 0 fired 0 ran 1 call send clock 13") ++ ended (codes "7 core 0 slice 0 0 fired 0 ran 1 call send clock 15") ++ ended (codes "8 core 0 slice 0 0 fired 0 ran 1 hold send clock 16") ++ ended (codes "report") ++ ended (codes "core 0 on rr clock 16 home 0 share 0 used 9") ++ ended (codes "block 0 core 0 time 16 armed 0") ++ ended (codes "disp 0 0 wait send 0 place 0 due 0") ++ ended (codes "ready 0 -") ++ ended (codes "cap 0 0 port 0 rights 7 parent -") ++ ended (codes "cap 0 1 frame 0 4 rights 7 parent -") ++ ended (codes "port 0 0 0 0 0 0") ++ ended (codes "port 0 0 0 0 0 0") ++ ended (codes "port 0 0 0 0 0 0") ++ ended (codes "port 0 0 0 0 0 0") ++ ended (codes "port 0 0 0 0 0 0") ++ ended (codes "port 0 0 0 0 0 0") ++ ended (codes "port 0 0 0 0 0 0") ++ ended (codes "port 0 0 0 0 0 0") ++ ended (codes "skipped 0") ++ ended (codes "end")
+text = texts.lines (
+    "0 core 0 slice 0 0 fired 0 ran 0 call send clock 1"
+    ∷ "1 core 0 slice 0 0 fired 0 ran 1 call send clock 3"
+    ∷ "2 core 0 slice 0 0 fired 0 ran 1 call send clock 5"
+    ∷ "3 core 0 slice 0 0 fired 0 ran 1 call send clock 7"
+    ∷ "4 core 0 slice 0 0 fired 0 ran 1 call send clock 9"
+    ∷ "5 core 0 slice 0 0 fired 0 ran 1 call send clock 11"
+    ∷ "6 core 0 slice 0 0 fired 0 ran 1 call send clock 13"
+    ∷ "7 core 0 slice 0 0 fired 0 ran 1 call send clock 15"
+    ∷ "8 core 0 slice 0 0 fired 0 ran 1 hold send clock 16"
+    ∷ "report"
+    ∷ "core 0 on rr clock 16 home 0 share 0 used 9"
+    ∷ "block 0 core 0 time 16 armed 0"
+    ∷ "disp 0 0 wait send 0 place 0 due 0"
+    ∷ "ready 0 -"
+    ∷ "cap 0 0 port 0 rights 7 parent -"
+    ∷ "cap 0 1 frame 0 4 rights 7 parent -"
+    ∷ "port 0 0 0 0 0 0"
+    ∷ "port 0 0 0 0 0 0"
+    ∷ "port 0 0 0 0 0 0"
+    ∷ "port 0 0 0 0 0 0"
+    ∷ "port 0 0 0 0 0 0"
+    ∷ "port 0 0 0 0 0 0"
+    ∷ "port 0 0 0 0 0 0"
+    ∷ "port 0 0 0 0 0 0"
+    ∷ "skipped 0"
+    ∷ "end"
+    ∷ [])
 
 is_played : played image script schedule ≡ record {
   journal = journal;
@@ -85,11 +151,16 @@ unfolding machine_of_blocks
 is_none_lost = refl
 
 -- the journal has told what the state shows
-is_told : option_map facts_told (run image script journal) ≡ option_map (facts_of (core_run image script schedule).state) (run image script journal)
+is_told : option_map facts_told (run image script journal)
+    ≡ option_map (facts_of (core_run image script schedule).state) (run image script journal)
 unfolding machine_with_cores machine_of_blocks
 is_told = refl
 
--- journals with a word changed, and the first bad entry of each
-are_changed : first_bads image script ((texts.slice 0 0 0 0 0 (end.Call op.Send) 1 ∷ texts.slice 0 0 0 0 1 (end.Call op.Send) 3 ∷ texts.slice 0 0 0 0 1 (end.Call op.Send) 4 ∷ texts.slice 0 0 0 0 1 (end.Call op.Send) 7 ∷ texts.slice 0 0 0 0 1 (end.Call op.Send) 9 ∷ texts.slice 0 0 0 0 1 (end.Call op.Send) 11 ∷ texts.slice 0 0 0 0 1 (end.Call op.Send) 13 ∷ texts.slice 0 0 0 0 1 (end.Call op.Send) 15 ∷ texts.slice 0 0 0 0 1 (end.Hold op.Send) 16 ∷ []) ∷ (texts.slice 0 0 0 0 0 (end.Call op.Send) 1 ∷ texts.slice 0 0 0 0 1 (end.Call op.Send) 3 ∷ texts.slice 0 0 0 0 1 (end.Call op.Send) 5 ∷ texts.slice 0 0 0 0 1 (end.Call op.Send) 7 ∷ texts.slice 0 0 0 0 1 (end.Call op.Send) 11 ∷ texts.slice 0 0 0 0 1 (end.Call op.Send) 13 ∷ texts.slice 0 0 0 0 1 (end.Call op.Send) 15 ∷ texts.slice 0 0 0 0 1 (end.Hold op.Send) 16 ∷ []) ∷ []) ≡ Some 2 ∷ Some 4 ∷ []
+-- journals that are changed, and the first bad entry of each
+are_changed : first_bads image script (
+    with_line 2 (texts.slice 0 0 0 0 1 (end.Call op.Send) 4) journal
+    ∷ without_line 4 journal
+    ∷ [])
+    ≡ Some 2 ∷ Some 4 ∷ []
 unfolding machine_of_blocks
 are_changed = refl

@@ -1,11 +1,7 @@
 -- A core serves its home block and a parked one by turns.
-use Rattle.std.specs.Prelude.{◌≡◌, ℕ, List, [], ◌∷◌, ◌++◌, codes, refl, true, Some, None}
+-- Made by tools/worked_examples.py from examples/HomeAndParkedTakeTurns.
+use Rattle.std.specs.Prelude.{◌≡◌, ℕ, List, [], ◌∷◌, refl, true, None, Some}
 use Rattle.std.specs.Option.{option_map}
-use Rattle.dc_rows.specs.Facts.{facts_told, facts_of}
-use Rattle.dc_rows.specs.Tabled.{tabled}
-use Rattle.dc_rows.specs.Computed.{machine_of_blocks, machine_with_cores, whole_texts}
-use Rattle.dc_base.specs.Runs.{run}
-use Rattle.dc_base.specs.CoreRuns.{core_run}
 use Rattle.dc_base.specs.declared.images.Image.{Image}
 use Rattle.dc_base.specs.declared.kernels.Version.TheVariants.{Rr}
 use Rattle.dc_base.specs.declared.kernels.Clocks.TheVariants.{Kept}
@@ -13,18 +9,23 @@ use Rattle.dc_base.specs.declared.actions.Actor.{Actor}
 use Rattle.dc_base.specs.declared.actions.Action.{Action}
 use Rattle.dc_base.specs.declared.calls.End.TheVariants as end
 use Rattle.dc_base.specs.declared.commands.ScriptLine.{ScriptLine}
-use Rattle.dc_base.specs.declared.commands.ScriptLine.TheVariants as lines
-use Rattle.dc_base.specs.declared.commands.Command.TheVariants as command
-use Rattle.dc_base.specs.declared.commands.Order.TheVariants as order
 use Rattle.dc_base.specs.declared.entries.Entry.{Entry}
-use Rattle.dc_rows.specs.Texts as texts
 use Rattle.dc_base.specs.declared.reports.ReportLine.{ReportLine}
-use Rattle.dc_base.specs.declared.reports.ReportLine.TheVariants as rl
-use Rattle.dc_base.specs.declared.dispatchers.DispState.TheVariants as ds
-use Rattle.dc_rows.specs.Played.{played, judged, first_bads}
-use Rattle.dc_base.specs.TextWords.{ended}
+use Rattle.dc_base.specs.declared.dispatchers.DispState.TheVariants as state
+use Rattle.dc_base.specs.Runs.{run}
+use Rattle.dc_base.specs.CoreRuns.{core_run}
 use Rattle.dc_base.specs.Shown.{all_shown_by}
 use Rattle.dc_base.specs.Headline.{blocks_reported, blocks_held}
+use Rattle.dc_rows.specs.Computed.{machine_of_blocks, machine_with_cores, whole_texts}
+use Rattle.dc_rows.specs.Facts.{facts_told, facts_of}
+use Rattle.dc_rows.specs.Images as image_of
+use Rattle.dc_rows.specs.Orders as order
+use Rattle.dc_rows.specs.Played.{played, judged, first_bads}
+use Rattle.dc_rows.specs.Reports as report_line
+use Rattle.dc_rows.specs.Scripts as script_line
+use Rattle.dc_rows.specs.Tabled.{tabled}
+use Rattle.dc_rows.specs.Texts as texts
+use Rattle.dc_rows.specs.WrongJournals.{with_line, lines_swapped}
 
 abbrev image : Image
 image = record {
@@ -33,37 +34,101 @@ image = record {
   quantum = 4;
   slices = 100;
   lines = 0;
-  cores = (record { base = 0; version = Some Rr } ∷ record { base = 0; version = Some Rr } ∷ []);
-  blocks = (record {
-    home = Some (record { 0 = 0 });
-    memory = [];
-    ports = 0;
-    signals = 0;
-    disps = (record { code = (251658240 ∷ []); period = 1; due = 0; caps = [] } ∷ []);
-  } ∷ record {
-    home = Some (record { 0 = 1 });
-    memory = [];
-    ports = 0;
-    signals = 0;
-    disps = (record { code = (251658240 ∷ []); period = 1; due = 0; caps = [] } ∷ []);
-  } ∷ []);
+  cores =
+      image_of.core 0 Rr ∷ image_of.core 0 Rr ∷ [];
+  blocks =
+      record {
+        home = image_of.home 0;
+        memory = [];
+        ports = 0;
+        signals = 0;
+        disps =
+            record {
+              code =
+                  251658240  -- jmp 0
+                  ∷ [];
+              period = 1;
+              due = 0;
+              caps = [];
+            }
+            ∷ [];
+      }
+      ∷ record {
+        home = image_of.home 1;
+        memory = [];
+        ports = 0;
+        signals = 0;
+        disps =
+            record {
+              code =
+                  251658240  -- jmp 0
+                  ∷ [];
+              period = 1;
+              due = 0;
+              caps = [];
+            }
+            ∷ [];
+      }
+      ∷ [];
   channels = [];
 }
 
 abbrev script : List ScriptLine
-script = (lines.Boot (command.Park (record { 0 = 1 }) (record { 0 = 0 })) ∷ [])
+script =
+    script_line.park 1 0 ∷ []
 
 abbrev schedule : List (Actor × Action)
-schedule = (texts.script ∷ texts.order 1 ∷ texts.script ∷ texts.order 0 ∷ texts.script ∷ texts.step 0 ∷ texts.step 0 ∷ texts.step 0 ∷ texts.step 0 ∷ [])
+schedule =
+    texts.script ∷ texts.order 1 ∷ texts.script ∷ texts.order 0 ∷ texts.script ∷ texts.step 0 ∷ texts.step 0 ∷ texts.step 0 ∷ texts.step 0 ∷ []
 
 abbrev journal : List Entry
-journal = (texts.post 0 1 (order.Release (record { 0 = 1 })) ∷ texts.release 1 1 0 ∷ texts.post 0 0 (order.Adopt (record { 0 = 1 }) true) ∷ texts.adopt 0 1 true 0 ∷ texts.done 0 ∷ texts.slice 0 0 0 0 4 end.Quantum 4 ∷ texts.slice 0 1 0 0 4 end.Quantum 8 ∷ texts.slice 0 0 0 0 4 end.Quantum 12 ∷ texts.slice 0 1 0 0 4 end.Quantum 16 ∷ [])
+journal =
+    texts.post 0 1 (order.release 1)
+    ∷ texts.release 1 1 0
+    ∷ texts.post 0 0 (order.adopt 1 true)
+    ∷ texts.adopt 0 1 true 0
+    ∷ texts.done 0
+    ∷ texts.slice 0 0 0 0 4 end.Quantum 4
+    ∷ texts.slice 0 1 0 0 4 end.Quantum 8
+    ∷ texts.slice 0 0 0 0 4 end.Quantum 12
+    ∷ texts.slice 0 1 0 0 4 end.Quantum 16
+    ∷ []
 
 abbrev report : List ReportLine
-report = (rl.CoreOn (record { 0 = 0 }) Rr 16 (Some (record { 0 = 0 })) (record { items = ((record { 0 = 0 }) ∷ (record { 0 = 1 }) ∷ []) }) 4 ∷ rl.CoreOn (record { 0 = 1 }) Rr 0 None (record { items = [] }) 0 ∷ rl.Block (record { 0 = 0 }) (Some (record { 0 = 0 })) 16 0 ∷ rl.Disp (record { 0 = 0 }) (record { 0 = 0 }) ds.Ready 0 0 ∷ rl.Ready (record { 0 = 0 }) (record { items = ((record { 0 = 0 }) ∷ []) }) ∷ rl.Block (record { 0 = 1 }) (Some (record { 0 = 0 })) 16 0 ∷ rl.Disp (record { 0 = 1 }) (record { 0 = 0 }) ds.Ready 0 0 ∷ rl.Ready (record { 0 = 1 }) (record { items = ((record { 0 = 0 }) ∷ []) }) ∷ [])
+report =
+    report_line.core_on 0 Rr 16 (Some 0) (0 ∷ 1 ∷ []) 4
+    ∷ report_line.core_on 1 Rr 0 None [] 0
+    ∷ report_line.block 0 (Some 0) 16 0
+    ∷ report_line.disp 0 0 state.Ready 0 0
+    ∷ report_line.ready 0 (0 ∷ [])
+    ∷ report_line.block 1 (Some 0) 16 0
+    ∷ report_line.disp 1 0 state.Ready 0 0
+    ∷ report_line.ready 1 (0 ∷ [])
+    ∷ []
 
 abbrev text : List ℕ
-text = ended (codes "0 script 0 post 1 release 1") ++ ended (codes "1 core 1 release 1 time 0") ++ ended (codes "2 script 0 post 0 adopt 1 parked") ++ ended (codes "3 core 0 adopt 1 parked time 0") ++ ended (codes "4 script 0 done") ++ ended (codes "5 core 0 slice 0 0 fired 0 ran 4 quantum clock 4") ++ ended (codes "6 core 0 slice 1 0 fired 0 ran 4 quantum clock 8") ++ ended (codes "7 core 0 slice 0 0 fired 0 ran 4 quantum clock 12") ++ ended (codes "8 core 0 slice 1 0 fired 0 ran 4 quantum clock 16") ++ ended (codes "report") ++ ended (codes "core 0 on rr clock 16 home 0 share 0,1 used 4") ++ ended (codes "core 1 on rr clock 0 home - share - used 0") ++ ended (codes "block 0 core 0 time 16 armed 0") ++ ended (codes "disp 0 0 ready place 0 due 0") ++ ended (codes "ready 0 0") ++ ended (codes "block 1 core 0 time 16 armed 0") ++ ended (codes "disp 1 0 ready place 0 due 0") ++ ended (codes "ready 1 0") ++ ended (codes "skipped 0") ++ ended (codes "end")
+text = texts.lines (
+    "0 script 0 post 1 release 1"
+    ∷ "1 core 1 release 1 time 0"
+    ∷ "2 script 0 post 0 adopt 1 parked"
+    ∷ "3 core 0 adopt 1 parked time 0"
+    ∷ "4 script 0 done"
+    ∷ "5 core 0 slice 0 0 fired 0 ran 4 quantum clock 4"
+    ∷ "6 core 0 slice 1 0 fired 0 ran 4 quantum clock 8"
+    ∷ "7 core 0 slice 0 0 fired 0 ran 4 quantum clock 12"
+    ∷ "8 core 0 slice 1 0 fired 0 ran 4 quantum clock 16"
+    ∷ "report"
+    ∷ "core 0 on rr clock 16 home 0 share 0,1 used 4"
+    ∷ "core 1 on rr clock 0 home - share - used 0"
+    ∷ "block 0 core 0 time 16 armed 0"
+    ∷ "disp 0 0 ready place 0 due 0"
+    ∷ "ready 0 0"
+    ∷ "block 1 core 0 time 16 armed 0"
+    ∷ "disp 1 0 ready place 0 due 0"
+    ∷ "ready 1 0"
+    ∷ "skipped 0"
+    ∷ "end"
+    ∷ [])
 
 is_played : played image script schedule ≡ record {
   journal = journal;
@@ -91,11 +156,16 @@ unfolding machine_of_blocks
 is_none_lost = refl
 
 -- the journal has told what the state shows
-is_told : option_map facts_told (run image script journal) ≡ option_map (facts_of (core_run image script schedule).state) (run image script journal)
+is_told : option_map facts_told (run image script journal)
+    ≡ option_map (facts_of (core_run image script schedule).state) (run image script journal)
 unfolding machine_with_cores machine_of_blocks
 is_told = refl
 
--- journals with a word changed, and the first bad entry of each
-are_changed : first_bads image script ((texts.post 0 1 (order.Release (record { 0 = 1 })) ∷ texts.post 0 0 (order.Adopt (record { 0 = 1 }) true) ∷ texts.release 1 1 0 ∷ texts.adopt 0 1 true 0 ∷ texts.done 0 ∷ texts.slice 0 0 0 0 4 end.Quantum 4 ∷ texts.slice 0 1 0 0 4 end.Quantum 8 ∷ texts.slice 0 0 0 0 4 end.Quantum 12 ∷ texts.slice 0 1 0 0 4 end.Quantum 16 ∷ []) ∷ (texts.post 0 1 (order.Release (record { 0 = 1 })) ∷ texts.release 1 1 0 ∷ texts.post 0 0 (order.Adopt (record { 0 = 1 }) true) ∷ texts.adopt 0 1 true 0 ∷ texts.done 0 ∷ texts.slice 0 0 0 0 4 end.Quantum 4 ∷ texts.slice 2 1 0 0 4 end.Quantum 8 ∷ texts.slice 0 0 0 0 4 end.Quantum 12 ∷ texts.slice 0 1 0 0 4 end.Quantum 16 ∷ []) ∷ []) ≡ Some 1 ∷ Some 6 ∷ []
+-- journals that are changed, and the first bad entry of each
+are_changed : first_bads image script (
+    lines_swapped 1 journal
+    ∷ with_line 6 (texts.slice 2 1 0 0 4 end.Quantum 8) journal
+    ∷ [])
+    ≡ Some 1 ∷ Some 6 ∷ []
 unfolding machine_of_blocks
 are_changed = refl

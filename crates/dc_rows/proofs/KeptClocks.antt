@@ -1,13 +1,8 @@
 -- The same with kept clocks.
-use Rattle.std.specs.Prelude.{◌≡◌, ℕ, List, [], ◌∷◌, ◌++◌, codes, refl, true, false, Some, None}
+-- Made by tools/worked_examples.py from examples/KeptClocks.
+use Rattle.std.specs.Prelude.{◌≡◌, ℕ, List, [], ◌∷◌, refl, true, false, None, Some}
 use Rattle.std.specs.Option.{option_map}
-use Rattle.dc_rows.specs.Facts.{facts_told, facts_of}
-use Rattle.dc_rows.specs.Tabled.{tabled}
-use Rattle.dc_rows.specs.Computed.{machine_of_blocks, machine_with_cores, whole_texts}
-use Rattle.dc_base.specs.Runs.{run}
-use Rattle.dc_base.specs.CoreRuns.{core_run}
 use Rattle.dc_base.specs.declared.images.Image.{Image}
-use Rattle.dc_base.specs.declared.capabilities.CapKind.TheVariants as kind
 use Rattle.dc_base.specs.declared.kernels.Version.TheVariants.{Rr}
 use Rattle.dc_base.specs.declared.kernels.Clocks.TheVariants.{Kept}
 use Rattle.dc_base.specs.declared.actions.Actor.{Actor}
@@ -15,18 +10,23 @@ use Rattle.dc_base.specs.declared.actions.Action.{Action}
 use Rattle.dc_base.specs.declared.calls.Op.TheVariants as op
 use Rattle.dc_base.specs.declared.calls.End.TheVariants as end
 use Rattle.dc_base.specs.declared.commands.ScriptLine.{ScriptLine}
-use Rattle.dc_base.specs.declared.commands.ScriptLine.TheVariants as lines
-use Rattle.dc_base.specs.declared.commands.Command.TheVariants as command
-use Rattle.dc_base.specs.declared.commands.Order.TheVariants as order
 use Rattle.dc_base.specs.declared.entries.Entry.{Entry}
-use Rattle.dc_rows.specs.Texts as texts
 use Rattle.dc_base.specs.declared.reports.ReportLine.{ReportLine}
-use Rattle.dc_base.specs.declared.reports.ReportLine.TheVariants as rl
-use Rattle.dc_base.specs.declared.dispatchers.DispState.TheVariants as ds
-use Rattle.dc_rows.specs.Played.{played, judged, first_bads}
-use Rattle.dc_base.specs.TextWords.{ended}
+use Rattle.dc_base.specs.declared.dispatchers.DispState.TheVariants as state
+use Rattle.dc_base.specs.Runs.{run}
+use Rattle.dc_base.specs.CoreRuns.{core_run}
 use Rattle.dc_base.specs.Shown.{all_shown_by}
 use Rattle.dc_base.specs.Headline.{blocks_reported, blocks_held}
+use Rattle.dc_rows.specs.Computed.{machine_of_blocks, machine_with_cores, whole_texts}
+use Rattle.dc_rows.specs.Facts.{facts_told, facts_of}
+use Rattle.dc_rows.specs.Images as image_of
+use Rattle.dc_rows.specs.Orders as order
+use Rattle.dc_rows.specs.Played.{played, judged, first_bads}
+use Rattle.dc_rows.specs.Reports as report_line
+use Rattle.dc_rows.specs.Scripts as script_line
+use Rattle.dc_rows.specs.Tabled.{tabled}
+use Rattle.dc_rows.specs.Texts as texts
+use Rattle.dc_rows.specs.WrongJournals.{with_line, line_added}
 
 abbrev image : Image
 image = record {
@@ -35,31 +35,94 @@ image = record {
   quantum = 4;
   slices = 100;
   lines = 0;
-  cores = (record { base = 0; version = Some Rr } ∷ record { base = 1000000; version = Some Rr } ∷ []);
-  blocks = (record {
-    home = Some (record { 0 = 0 });
-    memory = [];
-    ports = 0;
-    signals = 1;
-    disps = (record { code = (17825802 ∷ 654376965 ∷ 637665280 ∷ 305397760 ∷ 540016640 ∷ 335544320 ∷ []); period = 1; due = 0; caps = (record { slot = 0; cap = record { kind = kind.Signal (record { 0 = 0 }); rights = 7 } } ∷ []) } ∷ []);
-  } ∷ []);
+  cores =
+      image_of.core 0 Rr ∷ image_of.core 1000000 Rr ∷ [];
+  blocks =
+      record {
+        home = image_of.home 0;
+        memory = [];
+        ports = 0;
+        signals = 1;
+        disps =
+            record {
+              code =
+                  17825802  -- li r1 10
+                  ∷ 654376965  -- arm s0 r1 5
+                  ∷ 637665280  -- wait s0 r2
+                  ∷ 305397760  -- rdt r3 r4
+                  ∷ 540016640  -- out r3
+                  ∷ 335544320  -- halt
+                  ∷ [];
+              period = 1;
+              due = 0;
+              caps =
+                  image_of.cap 0 (image_of.signal 0) 7 ∷ [];
+            }
+            ∷ [];
+      }
+      ∷ [];
   channels = [];
 }
 
 abbrev script : List ScriptLine
-script = (lines.Boot (command.Move (record { 0 = 0 }) (record { 0 = 1 })) ∷ [])
+script =
+    script_line.move 0 1 ∷ []
 
 abbrev schedule : List (Actor × Action)
-schedule = (texts.step 0 ∷ texts.script ∷ texts.order 0 ∷ texts.script ∷ texts.order 1 ∷ texts.script ∷ texts.step 1 ∷ texts.step 1 ∷ texts.step 1 ∷ texts.step 1 ∷ texts.step 1 ∷ [])
+schedule =
+    texts.step 0 ∷ texts.script ∷ texts.order 0 ∷ texts.script ∷ texts.order 1 ∷ texts.script ∷ texts.step 1 ∷ texts.step 1 ∷ texts.step 1 ∷ texts.step 1
+    ∷ texts.step 1 ∷ []
 
 abbrev journal : List Entry
-journal = (texts.slice 0 0 0 0 1 (end.Call op.Arm) 2 ∷ texts.post 0 0 (order.Release (record { 0 = 0 })) ∷ texts.release 0 0 2 ∷ texts.post 0 1 (order.Adopt (record { 0 = 0 }) false) ∷ texts.adopt 1 0 false 2 ∷ texts.done 0 ∷ texts.slice 1 0 0 0 0 (end.Hold op.Wait) 1000001 ∷ texts.idle 1 1000008 ∷ texts.slice 1 0 0 1 0 (end.Call op.Wait) 1000009 ∷ texts.slice 1 0 0 0 1 (end.Call op.Out) 1000011 ∷ texts.slice 1 0 0 0 1 end.Halt 1000012 ∷ [])
+journal =
+    texts.slice 0 0 0 0 1 (end.Call op.Arm) 2
+    ∷ texts.post 0 0 (order.release 0)
+    ∷ texts.release 0 0 2
+    ∷ texts.post 0 1 (order.adopt 0 false)
+    ∷ texts.adopt 1 0 false 2
+    ∷ texts.done 0
+    ∷ texts.slice 1 0 0 0 0 (end.Hold op.Wait) 1000001
+    ∷ texts.idle 1 1000008
+    ∷ texts.slice 1 0 0 1 0 (end.Call op.Wait) 1000009
+    ∷ texts.slice 1 0 0 0 1 (end.Call op.Out) 1000011
+    ∷ texts.slice 1 0 0 0 1 end.Halt 1000012
+    ∷ []
 
 abbrev report : List ReportLine
-report = (rl.CoreOn (record { 0 = 0 }) Rr 2 None (record { items = [] }) 1 ∷ rl.CoreOn (record { 0 = 1 }) Rr 1000012 (Some (record { 0 = 0 })) (record { items = ((record { 0 = 0 }) ∷ []) }) 5 ∷ rl.Block (record { 0 = 0 }) (Some (record { 0 = 1 })) 14 0 ∷ rl.Disp (record { 0 = 0 }) (record { 0 = 0 }) ds.Halted 5 0 ∷ rl.Ready (record { 0 = 0 }) (record { items = [] }) ∷ rl.Cap (record { 0 = 0 }) (record { 0 = 0 }) (record { kind = kind.Signal (record { 0 = 0 }); rights = 7 }) None ∷ rl.Out (record { 0 = 0 }) 11 ∷ [])
+report =
+    report_line.core_on 0 Rr 2 None [] 1
+    ∷ report_line.core_on 1 Rr 1000012 (Some 0) (0 ∷ []) 5
+    ∷ report_line.block 0 (Some 1) 14 0
+    ∷ report_line.disp 0 0 state.Halted 5 0
+    ∷ report_line.ready 0 []
+    ∷ report_line.cap 0 0 (image_of.signal 0) 7 None
+    ∷ report_line.out 0 11
+    ∷ []
 
 abbrev text : List ℕ
-text = ended (codes "0 core 0 slice 0 0 fired 0 ran 1 call arm clock 2") ++ ended (codes "1 script 0 post 0 release 0") ++ ended (codes "2 core 0 release 0 time 2") ++ ended (codes "3 script 0 post 1 adopt 0 home") ++ ended (codes "4 core 1 adopt 0 home time 2") ++ ended (codes "5 script 0 done") ++ ended (codes "6 core 1 slice 0 0 fired 0 ran 0 hold wait clock 1000001") ++ ended (codes "7 core 1 idle clock 1000008") ++ ended (codes "8 core 1 slice 0 0 fired 1 ran 0 call wait clock 1000009") ++ ended (codes "9 core 1 slice 0 0 fired 0 ran 1 call out clock 1000011") ++ ended (codes "10 core 1 slice 0 0 fired 0 ran 1 halt clock 1000012") ++ ended (codes "report") ++ ended (codes "core 0 on rr clock 2 home - share - used 1") ++ ended (codes "core 1 on rr clock 1000012 home 0 share 0 used 5") ++ ended (codes "block 0 core 1 time 14 armed 0") ++ ended (codes "disp 0 0 halted place 5 due 0") ++ ended (codes "ready 0 -") ++ ended (codes "cap 0 0 signal 0 rights 7 parent -") ++ ended (codes "out 0 11") ++ ended (codes "skipped 0") ++ ended (codes "end")
+text = texts.lines (
+    "0 core 0 slice 0 0 fired 0 ran 1 call arm clock 2"
+    ∷ "1 script 0 post 0 release 0"
+    ∷ "2 core 0 release 0 time 2"
+    ∷ "3 script 0 post 1 adopt 0 home"
+    ∷ "4 core 1 adopt 0 home time 2"
+    ∷ "5 script 0 done"
+    ∷ "6 core 1 slice 0 0 fired 0 ran 0 hold wait clock 1000001"
+    ∷ "7 core 1 idle clock 1000008"
+    ∷ "8 core 1 slice 0 0 fired 1 ran 0 call wait clock 1000009"
+    ∷ "9 core 1 slice 0 0 fired 0 ran 1 call out clock 1000011"
+    ∷ "10 core 1 slice 0 0 fired 0 ran 1 halt clock 1000012"
+    ∷ "report"
+    ∷ "core 0 on rr clock 2 home - share - used 1"
+    ∷ "core 1 on rr clock 1000012 home 0 share 0 used 5"
+    ∷ "block 0 core 1 time 14 armed 0"
+    ∷ "disp 0 0 halted place 5 due 0"
+    ∷ "ready 0 -"
+    ∷ "cap 0 0 signal 0 rights 7 parent -"
+    ∷ "out 0 11"
+    ∷ "skipped 0"
+    ∷ "end"
+    ∷ [])
 
 is_played : played image script schedule ≡ record {
   journal = journal;
@@ -87,11 +150,16 @@ unfolding machine_of_blocks
 is_none_lost = refl
 
 -- the journal has told what the state shows
-is_told : option_map facts_told (run image script journal) ≡ option_map (facts_of (core_run image script schedule).state) (run image script journal)
+is_told : option_map facts_told (run image script journal)
+    ≡ option_map (facts_of (core_run image script schedule).state) (run image script journal)
 unfolding machine_with_cores machine_of_blocks
 is_told = refl
 
--- journals with a word changed, and the first bad entry of each
-are_changed : first_bads image script ((texts.slice 0 0 0 0 1 (end.Call op.Arm) 2 ∷ texts.post 0 2 (order.Release (record { 0 = 0 })) ∷ texts.release 0 0 2 ∷ texts.post 0 1 (order.Adopt (record { 0 = 0 }) false) ∷ texts.adopt 1 0 false 2 ∷ texts.done 0 ∷ texts.slice 1 0 0 0 0 (end.Hold op.Wait) 1000001 ∷ texts.idle 1 1000008 ∷ texts.slice 1 0 0 1 0 (end.Call op.Wait) 1000009 ∷ texts.slice 1 0 0 0 1 (end.Call op.Out) 1000011 ∷ texts.slice 1 0 0 0 1 end.Halt 1000012 ∷ []) ∷ (texts.slice 0 0 0 0 1 (end.Call op.Arm) 2 ∷ texts.post 0 0 (order.Release (record { 0 = 0 })) ∷ texts.release 0 0 2 ∷ texts.post 0 1 (order.Adopt (record { 0 = 0 }) false) ∷ texts.adopt 1 0 false 2 ∷ texts.done 0 ∷ texts.slice 1 0 0 0 0 (end.Hold op.Wait) 1000001 ∷ texts.idle 1 1000008 ∷ texts.slice 1 0 0 1 0 (end.Call op.Wait) 1000009 ∷ texts.slice 1 0 0 0 1 (end.Call op.Out) 1000011 ∷ texts.post 0 1 (order.Adopt (record { 0 = 0 }) false) ∷ texts.slice 1 0 0 0 1 end.Halt 1000012 ∷ []) ∷ []) ≡ Some 1 ∷ Some 10 ∷ []
+-- journals that are changed, and the first bad entry of each
+are_changed : first_bads image script (
+    with_line 1 (texts.post 0 2 (order.release 0)) journal
+    ∷ line_added 10 (texts.post 0 1 (order.adopt 0 false)) journal
+    ∷ [])
+    ≡ Some 1 ∷ Some 10 ∷ []
 unfolding machine_of_blocks
 are_changed = refl

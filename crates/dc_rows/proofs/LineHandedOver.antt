@@ -1,13 +1,8 @@
 -- A line is handed to another block with a raise pending.
-use Rattle.std.specs.Prelude.{◌≡◌, ℕ, List, [], ◌∷◌, ◌++◌, codes, refl, true, Some, None}
+-- Made by tools/worked_examples.py from examples/LineHandedOver.
+use Rattle.std.specs.Prelude.{◌≡◌, ℕ, List, [], ◌∷◌, refl, true, None, Some}
 use Rattle.std.specs.Option.{option_map}
-use Rattle.dc_rows.specs.Facts.{facts_told, facts_of}
-use Rattle.dc_rows.specs.Tabled.{tabled}
-use Rattle.dc_rows.specs.Computed.{machine_of_blocks, machine_with_cores, whole_texts}
-use Rattle.dc_base.specs.Runs.{run}
-use Rattle.dc_base.specs.CoreRuns.{core_run}
 use Rattle.dc_base.specs.declared.images.Image.{Image}
-use Rattle.dc_base.specs.declared.capabilities.CapKind.TheVariants as kind
 use Rattle.dc_base.specs.declared.kernels.Version.TheVariants.{Rr}
 use Rattle.dc_base.specs.declared.kernels.Clocks.TheVariants.{Kept}
 use Rattle.dc_base.specs.declared.actions.Actor.{Actor}
@@ -15,19 +10,25 @@ use Rattle.dc_base.specs.declared.actions.Action.{Action}
 use Rattle.dc_base.specs.declared.calls.Op.TheVariants as op
 use Rattle.dc_base.specs.declared.calls.End.TheVariants as end
 use Rattle.dc_base.specs.declared.interrupts.Latched.TheVariants as how
-use Rattle.dc_base.specs.declared.interrupts.Raised.TheVariants as raise
 use Rattle.dc_base.specs.declared.commands.ScriptLine.{ScriptLine}
-use Rattle.dc_base.specs.declared.commands.ScriptLine.TheVariants as lines
 use Rattle.dc_base.specs.declared.entries.Entry.{Entry}
-use Rattle.dc_rows.specs.Texts as texts
+use Rattle.dc_base.specs.declared.entries.Reason.TheVariants as why
 use Rattle.dc_base.specs.declared.reports.ReportLine.{ReportLine}
-use Rattle.dc_base.specs.declared.reports.ReportLine.TheVariants as rl
-use Rattle.dc_base.specs.declared.dispatchers.DispState.TheVariants as ds
-use Rattle.dc_base.specs.declared.entries.Reason.TheVariants as rs
-use Rattle.dc_rows.specs.Played.{played, judged, first_bads}
-use Rattle.dc_base.specs.TextWords.{ended}
+use Rattle.dc_base.specs.declared.dispatchers.DispState.TheVariants as state
+use Rattle.dc_base.specs.Runs.{run}
+use Rattle.dc_base.specs.CoreRuns.{core_run}
 use Rattle.dc_base.specs.Shown.{all_shown_by}
 use Rattle.dc_base.specs.Headline.{blocks_reported, blocks_held}
+use Rattle.dc_rows.specs.Computed.{machine_of_blocks, machine_with_cores, whole_texts}
+use Rattle.dc_rows.specs.Facts.{facts_told, facts_of}
+use Rattle.dc_rows.specs.Images as image_of
+use Rattle.dc_rows.specs.Orders as order
+use Rattle.dc_rows.specs.Played.{played, judged, first_bads}
+use Rattle.dc_rows.specs.Reports as report_line
+use Rattle.dc_rows.specs.Scripts as script_line
+use Rattle.dc_rows.specs.Tabled.{tabled}
+use Rattle.dc_rows.specs.Texts as texts
+use Rattle.dc_rows.specs.WrongJournals.{with_line, without_line}
 
 abbrev image : Image
 image = record {
@@ -36,42 +37,137 @@ image = record {
   quantum = 4;
   slices = 100;
   lines = 1;
-  cores = (record { base = 0; version = Some Rr } ∷ record { base = 0; version = Some Rr } ∷ []);
-  blocks = (record {
-    home = Some (record { 0 = 0 });
-    memory = [];
-    ports = 0;
-    signals = 1;
-    disps = (record { code = (738263040 ∷ 757071872 ∷ 738263040 ∷ []); period = 1; due = 0; caps = (record { slot = 0; cap = record { kind = kind.Line (record { 0 = 0 }); rights = 7 } } ∷ record { slot = 1; cap = record { kind = kind.Signal (record { 0 = 0 }); rights = 7 } } ∷ record { slot = 2; cap = record { kind = kind.SendEnd (record { 0 = 0 }); rights = 7 } } ∷ []) } ∷ []);
-  } ∷ record {
-    home = Some (record { 0 = 1 });
-    memory = [];
-    ports = 0;
-    signals = 1;
-    disps = (record { code = (771883008 ∷ 740360192 ∷ 638713856 ∷ 538968064 ∷ 335544320 ∷ []); period = 1; due = 0; caps = (record { slot = 0; cap = record { kind = kind.RecvEnd (record { 0 = 0 }); rights = 7 } } ∷ record { slot = 1; cap = record { kind = kind.Signal (record { 0 = 0 }); rights = 7 } } ∷ []) } ∷ []);
-  } ∷ []);
-  channels = (record { from = (record { 0 = 0 }); to = (record { 0 = 1 }); capacity = 1 } ∷ []);
+  cores =
+      image_of.core 0 Rr ∷ image_of.core 0 Rr ∷ [];
+  blocks =
+      record {
+        home = image_of.home 0;
+        memory = [];
+        ports = 0;
+        signals = 1;
+        disps =
+            record {
+              code =
+                  738263040  -- bind s0 s1
+                  ∷ 757071872  -- give s2 s0
+                  ∷ 738263040  -- bind s0 s1
+                  ∷ [];
+              period = 1;
+              due = 0;
+              caps =
+                  image_of.cap 0 (image_of.line 0) 7 ∷ image_of.cap 1 (image_of.signal 0) 7 ∷ image_of.cap 2 (image_of.sendend 0) 7 ∷ [];
+            }
+            ∷ [];
+      }
+      ∷ record {
+        home = image_of.home 1;
+        memory = [];
+        ports = 0;
+        signals = 1;
+        disps =
+            record {
+              code =
+                  771883008  -- claim s0 s2 0
+                  ∷ 740360192  -- bind s2 s1
+                  ∷ 638713856  -- wait s1 r2
+                  ∷ 538968064  -- out r2
+                  ∷ 335544320  -- halt
+                  ∷ [];
+              period = 1;
+              due = 0;
+              caps =
+                  image_of.cap 0 (image_of.recvend 0) 7 ∷ image_of.cap 1 (image_of.signal 0) 7 ∷ [];
+            }
+            ∷ [];
+      }
+      ∷ [];
+  channels =
+      image_of.channel 0 1 1 ∷ [];
 }
 
 abbrev script : List ScriptLine
-script = (lines.Raise (record { 0 = 0 }) ∷ lines.Raise (record { 0 = 0 }) ∷ [])
+script =
+    script_line.raise 0 ∷ script_line.raise 0 ∷ []
 
 abbrev schedule : List (Actor × Action)
-schedule = (texts.step 0 ∷ texts.raise ∷ texts.step 0 ∷ texts.intake 0 0 ∷ texts.raise ∷ texts.step 1 ∷ texts.step 1 ∷ texts.intake 1 0 ∷ texts.step 1 ∷ texts.step 1 ∷ texts.step 1 ∷ texts.step 0 ∷ [])
+schedule =
+    texts.step 0 ∷ texts.raise ∷ texts.step 0 ∷ texts.intake 0 0 ∷ texts.raise ∷ texts.step 1 ∷ texts.step 1 ∷ texts.intake 1 0 ∷ texts.step 1
+    ∷ texts.step 1 ∷ texts.step 1 ∷ texts.step 0 ∷ []
 
 abbrev journal : List Entry
-journal = (texts.slice 0 0 0 0 0 (end.Call op.Bind) 1 ∷ texts.raised 0 0 (raise.Pended 1) ∷ texts.slice 0 0 0 0 0 (end.Call op.Give) 2 ∷ texts.raised 1 0 (raise.Stray 2) ∷ texts.slice 1 1 0 0 0 (end.Call op.Claim) 1 ∷ texts.slice 1 1 0 0 0 (end.Call op.Bind) 2 ∷ texts.taken_in 1 0 1 1 0 how.Latched ∷ texts.slice 1 1 0 0 0 (end.Call op.Wait) 3 ∷ texts.slice 1 1 0 0 0 (end.Call op.Out) 4 ∷ texts.slice 1 1 0 0 1 end.Halt 5 ∷ texts.slice 0 0 0 0 0 (end.Trap 4) 3 ∷ [])
+journal =
+    texts.slice 0 0 0 0 0 (end.Call op.Bind) 1
+    ∷ texts.raised 0 0 (order.pending 1)
+    ∷ texts.slice 0 0 0 0 0 (end.Call op.Give) 2
+    ∷ texts.raised 1 0 (order.stray 2)
+    ∷ texts.slice 1 1 0 0 0 (end.Call op.Claim) 1
+    ∷ texts.slice 1 1 0 0 0 (end.Call op.Bind) 2
+    ∷ texts.taken_in 1 0 1 1 0 how.Latched
+    ∷ texts.slice 1 1 0 0 0 (end.Call op.Wait) 3
+    ∷ texts.slice 1 1 0 0 0 (end.Call op.Out) 4
+    ∷ texts.slice 1 1 0 0 1 end.Halt 5
+    ∷ texts.slice 0 0 0 0 0 (end.Trap 4) 3
+    ∷ []
 
 abbrev report : List ReportLine
-report = (rl.CoreOn (record { 0 = 0 }) Rr 3 (Some (record { 0 = 0 })) (record { items = ((record { 0 = 0 }) ∷ []) }) 3 ∷ rl.CoreOn (record { 0 = 1 }) Rr 5 (Some (record { 0 = 1 })) (record { items = ((record { 0 = 1 }) ∷ []) }) 5 ∷ rl.Block (record { 0 = 0 }) (Some (record { 0 = 0 })) 3 0 ∷ rl.Disp (record { 0 = 0 }) (record { 0 = 0 }) (ds.Trapped 4) 2 0 ∷ rl.Ready (record { 0 = 0 }) (record { items = [] }) ∷ rl.Cap (record { 0 = 0 }) (record { 0 = 1 }) (record { kind = kind.Signal (record { 0 = 0 }); rights = 7 }) None ∷ rl.Cap (record { 0 = 0 }) (record { 0 = 2 }) (record { kind = kind.SendEnd (record { 0 = 0 }); rights = 7 }) None ∷ rl.Block (record { 0 = 1 }) (Some (record { 0 = 1 })) 5 0 ∷ rl.Disp (record { 0 = 1 }) (record { 0 = 0 }) ds.Halted 4 0 ∷ rl.Ready (record { 0 = 1 }) (record { items = [] }) ∷ rl.Cap (record { 0 = 1 }) (record { 0 = 0 }) (record { kind = kind.RecvEnd (record { 0 = 0 }); rights = 7 }) None ∷ rl.Cap (record { 0 = 1 }) (record { 0 = 1 }) (record { kind = kind.Signal (record { 0 = 0 }); rights = 7 }) None ∷ rl.Cap (record { 0 = 1 }) (record { 0 = 2 }) (record { kind = kind.Line (record { 0 = 0 }); rights = 7 }) None ∷ rl.Channel (record { 0 = 0 }) 0 0 ∷ rl.Line (record { 0 = 0 }) (Some ((record { 0 = 1 }), (record { 0 = 0 }))) (Some (record { 0 = 1 })) 2 1 0 0 0 0 1 ∷ rl.Out (record { 0 = 1 }) 1 ∷ [])
+report =
+    report_line.core_on 0 Rr 3 (Some 0) (0 ∷ []) 3
+    ∷ report_line.core_on 1 Rr 5 (Some 1) (1 ∷ []) 5
+    ∷ report_line.block 0 (Some 0) 3 0
+    ∷ report_line.disp 0 0 (state.Trapped 4) 2 0
+    ∷ report_line.ready 0 []
+    ∷ report_line.cap 0 1 (image_of.signal 0) 7 None
+    ∷ report_line.cap 0 2 (image_of.sendend 0) 7 None
+    ∷ report_line.block 1 (Some 1) 5 0
+    ∷ report_line.disp 1 0 state.Halted 4 0
+    ∷ report_line.ready 1 []
+    ∷ report_line.cap 1 0 (image_of.recvend 0) 7 None
+    ∷ report_line.cap 1 1 (image_of.signal 0) 7 None
+    ∷ report_line.cap 1 2 (image_of.line 0) 7 None
+    ∷ report_line.channel 0 0 0
+    ∷ report_line.wire 0 (Some (1, 0)) (Some 1) 2 1 0 0 0 0 1
+    ∷ report_line.out 1 1
+    ∷ []
 
 abbrev text : List ℕ
-text = ended (codes "0 core 0 slice 0 0 fired 0 ran 0 call bind clock 1") ++ ended (codes "1 script 0 raise 0 1 pending") ++ ended (codes "2 core 0 slice 0 0 fired 0 ran 0 call give clock 2") ++ ended (codes "3 script 1 raise 0 2 stray") ++ ended (codes "4 core 1 slice 1 0 fired 0 ran 0 call claim clock 1") ++ ended (codes "5 core 1 slice 1 0 fired 0 ran 0 call bind clock 2") ++ ended (codes "6 core 1 intake 0 1 1 0 latched") ++ ended (codes "7 core 1 slice 1 0 fired 0 ran 0 call wait clock 3") ++ ended (codes "8 core 1 slice 1 0 fired 0 ran 0 call out clock 4") ++ ended (codes "9 core 1 slice 1 0 fired 0 ran 1 halt clock 5") ++ ended (codes "10 core 0 slice 0 0 fired 0 ran 0 trap 4 clock 3") ++ ended (codes "report") ++ ended (codes "core 0 on rr clock 3 home 0 share 0 used 3") ++ ended (codes "core 1 on rr clock 5 home 1 share 1 used 5") ++ ended (codes "block 0 core 0 time 3 armed 0") ++ ended (codes "disp 0 0 trap 4 place 2 due 0") ++ ended (codes "ready 0 -") ++ ended (codes "cap 0 1 signal 0 rights 7 parent -") ++ ended (codes "cap 0 2 sendend 0 rights 7 parent -") ++ ended (codes "block 1 core 1 time 5 armed 0") ++ ended (codes "disp 1 0 halted place 4 due 0") ++ ended (codes "ready 1 -") ++ ended (codes "cap 1 0 recvend 0 rights 7 parent -") ++ ended (codes "cap 1 1 signal 0 rights 7 parent -") ++ ended (codes "cap 1 2 line 0 rights 7 parent -") ++ ended (codes "channel 0 sent 0 taken 0") ++ ended (codes "line 0 to 1 0 route 1 raised 2 stray 1 pending 0 merged 0 latched 0 joined 0 delivered 1") ++ ended (codes "out 1 1") ++ ended (codes "skipped 1") ++ ended (codes "end")
+text = texts.lines (
+    "0 core 0 slice 0 0 fired 0 ran 0 call bind clock 1"
+    ∷ "1 script 0 raise 0 1 pending"
+    ∷ "2 core 0 slice 0 0 fired 0 ran 0 call give clock 2"
+    ∷ "3 script 1 raise 0 2 stray"
+    ∷ "4 core 1 slice 1 0 fired 0 ran 0 call claim clock 1"
+    ∷ "5 core 1 slice 1 0 fired 0 ran 0 call bind clock 2"
+    ∷ "6 core 1 intake 0 1 1 0 latched"
+    ∷ "7 core 1 slice 1 0 fired 0 ran 0 call wait clock 3"
+    ∷ "8 core 1 slice 1 0 fired 0 ran 0 call out clock 4"
+    ∷ "9 core 1 slice 1 0 fired 0 ran 1 halt clock 5"
+    ∷ "10 core 0 slice 0 0 fired 0 ran 0 trap 4 clock 3"
+    ∷ "report"
+    ∷ "core 0 on rr clock 3 home 0 share 0 used 3"
+    ∷ "core 1 on rr clock 5 home 1 share 1 used 5"
+    ∷ "block 0 core 0 time 3 armed 0"
+    ∷ "disp 0 0 trap 4 place 2 due 0"
+    ∷ "ready 0 -"
+    ∷ "cap 0 1 signal 0 rights 7 parent -"
+    ∷ "cap 0 2 sendend 0 rights 7 parent -"
+    ∷ "block 1 core 1 time 5 armed 0"
+    ∷ "disp 1 0 halted place 4 due 0"
+    ∷ "ready 1 -"
+    ∷ "cap 1 0 recvend 0 rights 7 parent -"
+    ∷ "cap 1 1 signal 0 rights 7 parent -"
+    ∷ "cap 1 2 line 0 rights 7 parent -"
+    ∷ "channel 0 sent 0 taken 0"
+    ∷ "line 0 to 1 0 route 1 raised 2 stray 1 pending 0 merged 0 latched 0 joined 0 delivered 1"
+    ∷ "out 1 1"
+    ∷ "skipped 1"
+    ∷ "end"
+    ∷ [])
 
 is_played : played image script schedule ≡ record {
   journal = journal;
   skipped = 1;
-  reasons = (Some rs.NotPending ∷ []);
+  reasons =
+      Some why.NotPending ∷ [];
   report = report;
   text = text;
   again = journal;
@@ -94,11 +190,16 @@ unfolding machine_of_blocks
 is_none_lost = refl
 
 -- the journal has told what the state shows
-is_told : option_map facts_told (run image script journal) ≡ option_map (facts_of (core_run image script schedule).state) (run image script journal)
+is_told : option_map facts_told (run image script journal)
+    ≡ option_map (facts_of (core_run image script schedule).state) (run image script journal)
 unfolding machine_with_cores machine_of_blocks
 is_told = refl
 
--- journals with a word changed, and the first bad entry of each
-are_changed : first_bads image script ((texts.slice 0 0 0 0 0 (end.Call op.Bind) 1 ∷ texts.raised 0 0 (raise.Pended 1) ∷ texts.slice 0 0 0 0 0 (end.Call op.Give) 1 ∷ texts.raised 1 0 (raise.Stray 2) ∷ texts.slice 1 1 0 0 0 (end.Call op.Claim) 1 ∷ texts.slice 1 1 0 0 0 (end.Call op.Bind) 2 ∷ texts.taken_in 1 0 1 1 0 how.Latched ∷ texts.slice 1 1 0 0 0 (end.Call op.Wait) 3 ∷ texts.slice 1 1 0 0 0 (end.Call op.Out) 4 ∷ texts.slice 1 1 0 0 1 end.Halt 5 ∷ texts.slice 0 0 0 0 0 (end.Trap 4) 3 ∷ []) ∷ (texts.slice 0 0 0 0 0 (end.Call op.Bind) 1 ∷ texts.raised 0 0 (raise.Pended 1) ∷ texts.slice 0 0 0 0 0 (end.Call op.Give) 2 ∷ texts.raised 1 0 (raise.Stray 2) ∷ texts.slice 1 1 0 0 0 (end.Call op.Bind) 2 ∷ texts.taken_in 1 0 1 1 0 how.Latched ∷ texts.slice 1 1 0 0 0 (end.Call op.Wait) 3 ∷ texts.slice 1 1 0 0 0 (end.Call op.Out) 4 ∷ texts.slice 1 1 0 0 1 end.Halt 5 ∷ texts.slice 0 0 0 0 0 (end.Trap 4) 3 ∷ []) ∷ []) ≡ Some 2 ∷ Some 4 ∷ []
+-- journals that are changed, and the first bad entry of each
+are_changed : first_bads image script (
+    with_line 2 (texts.slice 0 0 0 0 0 (end.Call op.Give) 1) journal
+    ∷ without_line 4 journal
+    ∷ [])
+    ≡ Some 2 ∷ Some 4 ∷ []
 unfolding machine_of_blocks
 are_changed = refl

@@ -1,31 +1,32 @@
 -- The same, ended while the line is offered.
-use Rattle.std.specs.Prelude.{◌≡◌, ℕ, List, [], ◌∷◌, ◌++◌, codes, refl, true, Some, None}
+-- Made by tools/worked_examples.py from examples/LineOffered.
+use Rattle.std.specs.Prelude.{◌≡◌, ℕ, List, [], ◌∷◌, refl, true, None, Some}
 use Rattle.std.specs.Option.{option_map}
-use Rattle.dc_rows.specs.Facts.{facts_told, facts_of}
-use Rattle.dc_rows.specs.Tabled.{tabled}
-use Rattle.dc_rows.specs.Computed.{machine_of_blocks, machine_with_cores, whole_texts}
-use Rattle.dc_base.specs.Runs.{run}
-use Rattle.dc_base.specs.CoreRuns.{core_run}
 use Rattle.dc_base.specs.declared.images.Image.{Image}
-use Rattle.dc_base.specs.declared.capabilities.CapKind.TheVariants as kind
 use Rattle.dc_base.specs.declared.kernels.Version.TheVariants.{Rr}
 use Rattle.dc_base.specs.declared.kernels.Clocks.TheVariants.{Kept}
 use Rattle.dc_base.specs.declared.actions.Actor.{Actor}
 use Rattle.dc_base.specs.declared.actions.Action.{Action}
 use Rattle.dc_base.specs.declared.calls.Op.TheVariants as op
 use Rattle.dc_base.specs.declared.calls.End.TheVariants as end
-use Rattle.dc_base.specs.declared.interrupts.Raised.TheVariants as raise
 use Rattle.dc_base.specs.declared.commands.ScriptLine.{ScriptLine}
-use Rattle.dc_base.specs.declared.commands.ScriptLine.TheVariants as lines
 use Rattle.dc_base.specs.declared.entries.Entry.{Entry}
-use Rattle.dc_rows.specs.Texts as texts
 use Rattle.dc_base.specs.declared.reports.ReportLine.{ReportLine}
-use Rattle.dc_base.specs.declared.reports.ReportLine.TheVariants as rl
-use Rattle.dc_base.specs.declared.dispatchers.DispState.TheVariants as ds
-use Rattle.dc_rows.specs.Played.{played, judged, first_bads}
-use Rattle.dc_base.specs.TextWords.{ended}
+use Rattle.dc_base.specs.declared.dispatchers.DispState.TheVariants as state
+use Rattle.dc_base.specs.Runs.{run}
+use Rattle.dc_base.specs.CoreRuns.{core_run}
 use Rattle.dc_base.specs.Shown.{all_shown_by}
 use Rattle.dc_base.specs.Headline.{blocks_reported, blocks_held}
+use Rattle.dc_rows.specs.Computed.{machine_of_blocks, machine_with_cores, whole_texts}
+use Rattle.dc_rows.specs.Facts.{facts_told, facts_of}
+use Rattle.dc_rows.specs.Images as image_of
+use Rattle.dc_rows.specs.Orders as order
+use Rattle.dc_rows.specs.Played.{played, judged, first_bads}
+use Rattle.dc_rows.specs.Reports as report_line
+use Rattle.dc_rows.specs.Scripts as script_line
+use Rattle.dc_rows.specs.Tabled.{tabled}
+use Rattle.dc_rows.specs.Texts as texts
+use Rattle.dc_rows.specs.WrongJournals.{with_line, without_line}
 
 abbrev image : Image
 image = record {
@@ -34,37 +35,112 @@ image = record {
   quantum = 4;
   slices = 100;
   lines = 1;
-  cores = (record { base = 0; version = Some Rr } ∷ record { base = 0; version = Some Rr } ∷ []);
-  blocks = (record {
-    home = Some (record { 0 = 0 });
-    memory = [];
-    ports = 0;
-    signals = 1;
-    disps = (record { code = (738263040 ∷ 757071872 ∷ 738263040 ∷ []); period = 1; due = 0; caps = (record { slot = 0; cap = record { kind = kind.Line (record { 0 = 0 }); rights = 7 } } ∷ record { slot = 1; cap = record { kind = kind.Signal (record { 0 = 0 }); rights = 7 } } ∷ record { slot = 2; cap = record { kind = kind.SendEnd (record { 0 = 0 }); rights = 7 } } ∷ []) } ∷ []);
-  } ∷ record {
-    home = Some (record { 0 = 1 });
-    memory = [];
-    ports = 0;
-    signals = 1;
-    disps = (record { code = (771883008 ∷ 740360192 ∷ 638713856 ∷ 538968064 ∷ 335544320 ∷ []); period = 1; due = 0; caps = (record { slot = 0; cap = record { kind = kind.RecvEnd (record { 0 = 0 }); rights = 7 } } ∷ record { slot = 1; cap = record { kind = kind.Signal (record { 0 = 0 }); rights = 7 } } ∷ []) } ∷ []);
-  } ∷ []);
-  channels = (record { from = (record { 0 = 0 }); to = (record { 0 = 1 }); capacity = 1 } ∷ []);
+  cores =
+      image_of.core 0 Rr ∷ image_of.core 0 Rr ∷ [];
+  blocks =
+      record {
+        home = image_of.home 0;
+        memory = [];
+        ports = 0;
+        signals = 1;
+        disps =
+            record {
+              code =
+                  738263040  -- bind s0 s1
+                  ∷ 757071872  -- give s2 s0
+                  ∷ 738263040  -- bind s0 s1
+                  ∷ [];
+              period = 1;
+              due = 0;
+              caps =
+                  image_of.cap 0 (image_of.line 0) 7 ∷ image_of.cap 1 (image_of.signal 0) 7 ∷ image_of.cap 2 (image_of.sendend 0) 7 ∷ [];
+            }
+            ∷ [];
+      }
+      ∷ record {
+        home = image_of.home 1;
+        memory = [];
+        ports = 0;
+        signals = 1;
+        disps =
+            record {
+              code =
+                  771883008  -- claim s0 s2 0
+                  ∷ 740360192  -- bind s2 s1
+                  ∷ 638713856  -- wait s1 r2
+                  ∷ 538968064  -- out r2
+                  ∷ 335544320  -- halt
+                  ∷ [];
+              period = 1;
+              due = 0;
+              caps =
+                  image_of.cap 0 (image_of.recvend 0) 7 ∷ image_of.cap 1 (image_of.signal 0) 7 ∷ [];
+            }
+            ∷ [];
+      }
+      ∷ [];
+  channels =
+      image_of.channel 0 1 1 ∷ [];
 }
 
 abbrev script : List ScriptLine
-script = (lines.Raise (record { 0 = 0 }) ∷ lines.Raise (record { 0 = 0 }) ∷ [])
+script =
+    script_line.raise 0 ∷ script_line.raise 0 ∷ []
 
 abbrev schedule : List (Actor × Action)
-schedule = (texts.step 0 ∷ texts.raise ∷ texts.step 0 ∷ [])
+schedule =
+    texts.step 0 ∷ texts.raise ∷ texts.step 0 ∷ []
 
 abbrev journal : List Entry
-journal = (texts.slice 0 0 0 0 0 (end.Call op.Bind) 1 ∷ texts.raised 0 0 (raise.Pended 1) ∷ texts.slice 0 0 0 0 0 (end.Call op.Give) 2 ∷ [])
+journal =
+    texts.slice 0 0 0 0 0 (end.Call op.Bind) 1
+    ∷ texts.raised 0 0 (order.pending 1)
+    ∷ texts.slice 0 0 0 0 0 (end.Call op.Give) 2
+    ∷ []
 
 abbrev report : List ReportLine
-report = (rl.CoreOn (record { 0 = 0 }) Rr 2 (Some (record { 0 = 0 })) (record { items = ((record { 0 = 0 }) ∷ []) }) 2 ∷ rl.CoreOn (record { 0 = 1 }) Rr 0 (Some (record { 0 = 1 })) (record { items = ((record { 0 = 1 }) ∷ []) }) 0 ∷ rl.Block (record { 0 = 0 }) (Some (record { 0 = 0 })) 2 0 ∷ rl.Disp (record { 0 = 0 }) (record { 0 = 0 }) ds.Ready 2 0 ∷ rl.Ready (record { 0 = 0 }) (record { items = ((record { 0 = 0 }) ∷ []) }) ∷ rl.Cap (record { 0 = 0 }) (record { 0 = 1 }) (record { kind = kind.Signal (record { 0 = 0 }); rights = 7 }) None ∷ rl.Cap (record { 0 = 0 }) (record { 0 = 2 }) (record { kind = kind.SendEnd (record { 0 = 0 }); rights = 7 }) None ∷ rl.Block (record { 0 = 1 }) (Some (record { 0 = 1 })) 0 0 ∷ rl.Disp (record { 0 = 1 }) (record { 0 = 0 }) ds.Ready 0 0 ∷ rl.Ready (record { 0 = 1 }) (record { items = ((record { 0 = 0 }) ∷ []) }) ∷ rl.Cap (record { 0 = 1 }) (record { 0 = 0 }) (record { kind = kind.RecvEnd (record { 0 = 0 }); rights = 7 }) None ∷ rl.Cap (record { 0 = 1 }) (record { 0 = 1 }) (record { kind = kind.Signal (record { 0 = 0 }); rights = 7 }) None ∷ rl.Channel (record { 0 = 0 }) 0 0 ∷ rl.Line (record { 0 = 0 }) None (Some (record { 0 = 0 })) 1 0 1 0 0 0 0 ∷ rl.Offer (record { 0 = 0 }) (record { 0 = 0 }) 7 ∷ [])
+report =
+    report_line.core_on 0 Rr 2 (Some 0) (0 ∷ []) 2
+    ∷ report_line.core_on 1 Rr 0 (Some 1) (1 ∷ []) 0
+    ∷ report_line.block 0 (Some 0) 2 0
+    ∷ report_line.disp 0 0 state.Ready 2 0
+    ∷ report_line.ready 0 (0 ∷ [])
+    ∷ report_line.cap 0 1 (image_of.signal 0) 7 None
+    ∷ report_line.cap 0 2 (image_of.sendend 0) 7 None
+    ∷ report_line.block 1 (Some 1) 0 0
+    ∷ report_line.disp 1 0 state.Ready 0 0
+    ∷ report_line.ready 1 (0 ∷ [])
+    ∷ report_line.cap 1 0 (image_of.recvend 0) 7 None
+    ∷ report_line.cap 1 1 (image_of.signal 0) 7 None
+    ∷ report_line.channel 0 0 0
+    ∷ report_line.wire 0 None (Some 0) 1 0 1 0 0 0 0
+    ∷ report_line.offer 0 0 7
+    ∷ []
 
 abbrev text : List ℕ
-text = ended (codes "0 core 0 slice 0 0 fired 0 ran 0 call bind clock 1") ++ ended (codes "1 script 0 raise 0 1 pending") ++ ended (codes "2 core 0 slice 0 0 fired 0 ran 0 call give clock 2") ++ ended (codes "report") ++ ended (codes "core 0 on rr clock 2 home 0 share 0 used 2") ++ ended (codes "core 1 on rr clock 0 home 1 share 1 used 0") ++ ended (codes "block 0 core 0 time 2 armed 0") ++ ended (codes "disp 0 0 ready place 2 due 0") ++ ended (codes "ready 0 0") ++ ended (codes "cap 0 1 signal 0 rights 7 parent -") ++ ended (codes "cap 0 2 sendend 0 rights 7 parent -") ++ ended (codes "block 1 core 1 time 0 armed 0") ++ ended (codes "disp 1 0 ready place 0 due 0") ++ ended (codes "ready 1 0") ++ ended (codes "cap 1 0 recvend 0 rights 7 parent -") ++ ended (codes "cap 1 1 signal 0 rights 7 parent -") ++ ended (codes "channel 0 sent 0 taken 0") ++ ended (codes "line 0 to - - route 0 raised 1 stray 0 pending 1 merged 0 latched 0 joined 0 delivered 0") ++ ended (codes "offer 0 0 rights 7") ++ ended (codes "skipped 0") ++ ended (codes "end")
+text = texts.lines (
+    "0 core 0 slice 0 0 fired 0 ran 0 call bind clock 1"
+    ∷ "1 script 0 raise 0 1 pending"
+    ∷ "2 core 0 slice 0 0 fired 0 ran 0 call give clock 2"
+    ∷ "report"
+    ∷ "core 0 on rr clock 2 home 0 share 0 used 2"
+    ∷ "core 1 on rr clock 0 home 1 share 1 used 0"
+    ∷ "block 0 core 0 time 2 armed 0"
+    ∷ "disp 0 0 ready place 2 due 0"
+    ∷ "ready 0 0"
+    ∷ "cap 0 1 signal 0 rights 7 parent -"
+    ∷ "cap 0 2 sendend 0 rights 7 parent -"
+    ∷ "block 1 core 1 time 0 armed 0"
+    ∷ "disp 1 0 ready place 0 due 0"
+    ∷ "ready 1 0"
+    ∷ "cap 1 0 recvend 0 rights 7 parent -"
+    ∷ "cap 1 1 signal 0 rights 7 parent -"
+    ∷ "channel 0 sent 0 taken 0"
+    ∷ "line 0 to - - route 0 raised 1 stray 0 pending 1 merged 0 latched 0 joined 0 delivered 0"
+    ∷ "offer 0 0 rights 7"
+    ∷ "skipped 0"
+    ∷ "end"
+    ∷ [])
 
 is_played : played image script schedule ≡ record {
   journal = journal;
@@ -92,11 +168,16 @@ unfolding machine_of_blocks
 is_none_lost = refl
 
 -- the journal has told what the state shows
-is_told : option_map facts_told (run image script journal) ≡ option_map (facts_of (core_run image script schedule).state) (run image script journal)
+is_told : option_map facts_told (run image script journal)
+    ≡ option_map (facts_of (core_run image script schedule).state) (run image script journal)
 unfolding machine_with_cores machine_of_blocks
 is_told = refl
 
--- journals with a word changed, and the first bad entry of each
-are_changed : first_bads image script ((texts.slice 0 0 0 0 0 (end.Call op.Bind) 0 ∷ texts.raised 0 0 (raise.Pended 1) ∷ texts.slice 0 0 0 0 0 (end.Call op.Give) 2 ∷ []) ∷ (texts.slice 0 0 0 0 0 (end.Call op.Bind) 1 ∷ texts.slice 0 0 0 0 0 (end.Call op.Give) 2 ∷ []) ∷ []) ≡ Some 0 ∷ None ∷ []
+-- journals that are changed, and the first bad entry of each
+are_changed : first_bads image script (
+    with_line 0 (texts.slice 0 0 0 0 0 (end.Call op.Bind) 0) journal
+    ∷ without_line 1 journal
+    ∷ [])
+    ≡ Some 0 ∷ None ∷ []
 unfolding machine_of_blocks
 are_changed = refl

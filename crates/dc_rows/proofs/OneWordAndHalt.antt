@@ -1,11 +1,7 @@
 -- One dispatcher puts out a word and halts; the third step finds nothing.
-use Rattle.std.specs.Prelude.{◌≡◌, ℕ, List, [], ◌∷◌, ◌++◌, codes, refl, true, Some, None}
+-- Made by tools/worked_examples.py from examples/OneWordAndHalt.
+use Rattle.std.specs.Prelude.{◌≡◌, ℕ, List, [], ◌∷◌, refl, true, None, Some}
 use Rattle.std.specs.Option.{option_map}
-use Rattle.dc_rows.specs.Facts.{facts_told, facts_of}
-use Rattle.dc_rows.specs.Tabled.{tabled}
-use Rattle.dc_rows.specs.Computed.{machine_of_blocks, machine_with_cores, whole_texts}
-use Rattle.dc_base.specs.Runs.{run}
-use Rattle.dc_base.specs.CoreRuns.{core_run}
 use Rattle.dc_base.specs.declared.images.Image.{Image}
 use Rattle.dc_base.specs.declared.kernels.Version.TheVariants.{Rr}
 use Rattle.dc_base.specs.declared.kernels.Clocks.TheVariants.{Kept}
@@ -15,15 +11,21 @@ use Rattle.dc_base.specs.declared.calls.Op.TheVariants as op
 use Rattle.dc_base.specs.declared.calls.End.TheVariants as end
 use Rattle.dc_base.specs.declared.commands.ScriptLine.{ScriptLine}
 use Rattle.dc_base.specs.declared.entries.Entry.{Entry}
-use Rattle.dc_rows.specs.Texts as texts
+use Rattle.dc_base.specs.declared.entries.Reason.TheVariants as why
 use Rattle.dc_base.specs.declared.reports.ReportLine.{ReportLine}
-use Rattle.dc_base.specs.declared.reports.ReportLine.TheVariants as rl
-use Rattle.dc_base.specs.declared.dispatchers.DispState.TheVariants as ds
-use Rattle.dc_base.specs.declared.entries.Reason.TheVariants as rs
-use Rattle.dc_rows.specs.Played.{played, judged, first_bads}
-use Rattle.dc_base.specs.TextWords.{ended}
+use Rattle.dc_base.specs.declared.dispatchers.DispState.TheVariants as state
+use Rattle.dc_base.specs.Runs.{run}
+use Rattle.dc_base.specs.CoreRuns.{core_run}
 use Rattle.dc_base.specs.Shown.{all_shown_by}
 use Rattle.dc_base.specs.Headline.{blocks_reported, blocks_held}
+use Rattle.dc_rows.specs.Computed.{machine_of_blocks, machine_with_cores, whole_texts}
+use Rattle.dc_rows.specs.Facts.{facts_told, facts_of}
+use Rattle.dc_rows.specs.Images as image_of
+use Rattle.dc_rows.specs.Played.{played, judged, first_bads}
+use Rattle.dc_rows.specs.Reports as report_line
+use Rattle.dc_rows.specs.Tabled.{tabled}
+use Rattle.dc_rows.specs.Texts as texts
+use Rattle.dc_rows.specs.WrongJournals.{with_line, without_line}
 
 abbrev image : Image
 image = record {
@@ -32,14 +34,28 @@ image = record {
   quantum = 4;
   slices = 100;
   lines = 0;
-  cores = (record { base = 0; version = Some Rr } ∷ []);
-  blocks = (record {
-    home = Some (record { 0 = 0 });
-    memory = [];
-    ports = 0;
-    signals = 0;
-    disps = (record { code = (16777223 ∷ 536870912 ∷ 335544320 ∷ []); period = 1; due = 0; caps = [] } ∷ []);
-  } ∷ []);
+  cores =
+      image_of.core 0 Rr ∷ [];
+  blocks =
+      record {
+        home = image_of.home 0;
+        memory = [];
+        ports = 0;
+        signals = 0;
+        disps =
+            record {
+              code =
+                  16777223  -- li r0 7
+                  ∷ 536870912  -- out r0
+                  ∷ 335544320  -- halt
+                  ∷ [];
+              period = 1;
+              due = 0;
+              caps = [];
+            }
+            ∷ [];
+      }
+      ∷ [];
   channels = [];
 }
 
@@ -47,21 +63,43 @@ abbrev script : List ScriptLine
 script = []
 
 abbrev schedule : List (Actor × Action)
-schedule = (texts.step 0 ∷ texts.step 0 ∷ texts.step 0 ∷ [])
+schedule =
+    texts.step 0 ∷ texts.step 0 ∷ texts.step 0 ∷ []
 
 abbrev journal : List Entry
-journal = (texts.slice 0 0 0 0 1 (end.Call op.Out) 2 ∷ texts.slice 0 0 0 0 1 end.Halt 3 ∷ [])
+journal =
+    texts.slice 0 0 0 0 1 (end.Call op.Out) 2
+    ∷ texts.slice 0 0 0 0 1 end.Halt 3
+    ∷ []
 
 abbrev report : List ReportLine
-report = (rl.CoreOn (record { 0 = 0 }) Rr 3 (Some (record { 0 = 0 })) (record { items = ((record { 0 = 0 }) ∷ []) }) 2 ∷ rl.Block (record { 0 = 0 }) (Some (record { 0 = 0 })) 3 0 ∷ rl.Disp (record { 0 = 0 }) (record { 0 = 0 }) ds.Halted 2 0 ∷ rl.Ready (record { 0 = 0 }) (record { items = [] }) ∷ rl.Out (record { 0 = 0 }) 7 ∷ [])
+report =
+    report_line.core_on 0 Rr 3 (Some 0) (0 ∷ []) 2
+    ∷ report_line.block 0 (Some 0) 3 0
+    ∷ report_line.disp 0 0 state.Halted 2 0
+    ∷ report_line.ready 0 []
+    ∷ report_line.out 0 7
+    ∷ []
 
 abbrev text : List ℕ
-text = ended (codes "0 core 0 slice 0 0 fired 0 ran 1 call out clock 2") ++ ended (codes "1 core 0 slice 0 0 fired 0 ran 1 halt clock 3") ++ ended (codes "report") ++ ended (codes "core 0 on rr clock 3 home 0 share 0 used 2") ++ ended (codes "block 0 core 0 time 3 armed 0") ++ ended (codes "disp 0 0 halted place 2 due 0") ++ ended (codes "ready 0 -") ++ ended (codes "out 0 7") ++ ended (codes "skipped 1") ++ ended (codes "end")
+text = texts.lines (
+    "0 core 0 slice 0 0 fired 0 ran 1 call out clock 2"
+    ∷ "1 core 0 slice 0 0 fired 0 ran 1 halt clock 3"
+    ∷ "report"
+    ∷ "core 0 on rr clock 3 home 0 share 0 used 2"
+    ∷ "block 0 core 0 time 3 armed 0"
+    ∷ "disp 0 0 halted place 2 due 0"
+    ∷ "ready 0 -"
+    ∷ "out 0 7"
+    ∷ "skipped 1"
+    ∷ "end"
+    ∷ [])
 
 is_played : played image script schedule ≡ record {
   journal = journal;
   skipped = 1;
-  reasons = (Some rs.Nothing ∷ []);
+  reasons =
+      Some why.Nothing ∷ [];
   report = report;
   text = text;
   again = journal;
@@ -84,11 +122,16 @@ unfolding machine_of_blocks
 is_none_lost = refl
 
 -- the journal has told what the state shows
-is_told : option_map facts_told (run image script journal) ≡ option_map (facts_of (core_run image script schedule).state) (run image script journal)
+is_told : option_map facts_told (run image script journal)
+    ≡ option_map (facts_of (core_run image script schedule).state) (run image script journal)
 unfolding machine_with_cores machine_of_blocks
 is_told = refl
 
--- journals with a word changed, and the first bad entry of each
-are_changed : first_bads image script ((texts.slice 0 0 0 0 1 (end.Call op.Out) 1 ∷ texts.slice 0 0 0 0 1 end.Halt 3 ∷ []) ∷ (texts.slice 0 0 0 0 1 (end.Call op.Out) 2 ∷ []) ∷ []) ≡ Some 0 ∷ None ∷ []
+-- journals that are changed, and the first bad entry of each
+are_changed : first_bads image script (
+    with_line 0 (texts.slice 0 0 0 0 1 (end.Call op.Out) 1) journal
+    ∷ without_line 1 journal
+    ∷ [])
+    ≡ Some 0 ∷ None ∷ []
 unfolding machine_of_blocks
 are_changed = refl

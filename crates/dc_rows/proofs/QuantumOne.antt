@@ -1,11 +1,7 @@
 -- Quantum 1 cuts the code into single instructions.
-use Rattle.std.specs.Prelude.{◌≡◌, ℕ, List, [], ◌∷◌, ◌++◌, codes, refl, true, Some}
+-- Made by tools/worked_examples.py from examples/QuantumOne.
+use Rattle.std.specs.Prelude.{◌≡◌, ℕ, List, [], ◌∷◌, refl, true, Some}
 use Rattle.std.specs.Option.{option_map}
-use Rattle.dc_rows.specs.Facts.{facts_told, facts_of}
-use Rattle.dc_rows.specs.Tabled.{tabled}
-use Rattle.dc_rows.specs.Computed.{machine_of_blocks, machine_with_cores, whole_texts}
-use Rattle.dc_base.specs.Runs.{run}
-use Rattle.dc_base.specs.CoreRuns.{core_run}
 use Rattle.dc_base.specs.declared.images.Image.{Image}
 use Rattle.dc_base.specs.declared.kernels.Version.TheVariants.{Rr}
 use Rattle.dc_base.specs.declared.kernels.Clocks.TheVariants.{Kept}
@@ -15,14 +11,20 @@ use Rattle.dc_base.specs.declared.calls.Op.TheVariants as op
 use Rattle.dc_base.specs.declared.calls.End.TheVariants as end
 use Rattle.dc_base.specs.declared.commands.ScriptLine.{ScriptLine}
 use Rattle.dc_base.specs.declared.entries.Entry.{Entry}
-use Rattle.dc_rows.specs.Texts as texts
 use Rattle.dc_base.specs.declared.reports.ReportLine.{ReportLine}
-use Rattle.dc_base.specs.declared.reports.ReportLine.TheVariants as rl
-use Rattle.dc_base.specs.declared.dispatchers.DispState.TheVariants as ds
-use Rattle.dc_rows.specs.Played.{played, judged, first_bads}
-use Rattle.dc_base.specs.TextWords.{ended}
+use Rattle.dc_base.specs.declared.dispatchers.DispState.TheVariants as state
+use Rattle.dc_base.specs.Runs.{run}
+use Rattle.dc_base.specs.CoreRuns.{core_run}
 use Rattle.dc_base.specs.Shown.{all_shown_by}
 use Rattle.dc_base.specs.Headline.{blocks_reported, blocks_held}
+use Rattle.dc_rows.specs.Computed.{machine_of_blocks, machine_with_cores, whole_texts}
+use Rattle.dc_rows.specs.Facts.{facts_told, facts_of}
+use Rattle.dc_rows.specs.Images as image_of
+use Rattle.dc_rows.specs.Played.{played, judged, first_bads}
+use Rattle.dc_rows.specs.Reports as report_line
+use Rattle.dc_rows.specs.Tabled.{tabled}
+use Rattle.dc_rows.specs.Texts as texts
+use Rattle.dc_rows.specs.WrongJournals.{with_line}
 
 abbrev image : Image
 image = record {
@@ -31,14 +33,30 @@ image = record {
   quantum = 1;
   slices = 100;
   lines = 0;
-  cores = (record { base = 0; version = Some Rr } ∷ []);
-  blocks = (record {
-    home = Some (record { 0 = 0 });
-    memory = [];
-    ports = 0;
-    signals = 0;
-    disps = (record { code = (16777223 ∷ 17825793 ∷ 67174400 ∷ 536870912 ∷ 335544320 ∷ []); period = 1; due = 0; caps = [] } ∷ []);
-  } ∷ []);
+  cores =
+      image_of.core 0 Rr ∷ [];
+  blocks =
+      record {
+        home = image_of.home 0;
+        memory = [];
+        ports = 0;
+        signals = 0;
+        disps =
+            record {
+              code =
+                  16777223  -- li r0 7
+                  ∷ 17825793  -- li r1 1
+                  ∷ 67174400  -- add r0 r1
+                  ∷ 536870912  -- out r0
+                  ∷ 335544320  -- halt
+                  ∷ [];
+              period = 1;
+              due = 0;
+              caps = [];
+            }
+            ∷ [];
+      }
+      ∷ [];
   channels = [];
 }
 
@@ -46,16 +64,41 @@ abbrev script : List ScriptLine
 script = []
 
 abbrev schedule : List (Actor × Action)
-schedule = (texts.step 0 ∷ texts.step 0 ∷ texts.step 0 ∷ texts.step 0 ∷ [])
+schedule =
+    texts.step 0 ∷ texts.step 0 ∷ texts.step 0 ∷ texts.step 0 ∷ []
 
 abbrev journal : List Entry
-journal = (texts.slice 0 0 0 0 1 end.Quantum 1 ∷ texts.slice 0 0 0 0 1 end.Quantum 2 ∷ texts.slice 0 0 0 0 1 (end.Call op.Out) 4 ∷ texts.slice 0 0 0 0 1 end.Halt 5 ∷ [])
+journal =
+    texts.slice 0 0 0 0 1 end.Quantum 1
+    ∷ texts.slice 0 0 0 0 1 end.Quantum 2
+    ∷ texts.slice 0 0 0 0 1 (end.Call op.Out) 4
+    ∷ texts.slice 0 0 0 0 1 end.Halt 5
+    ∷ []
 
 abbrev report : List ReportLine
-report = (rl.CoreOn (record { 0 = 0 }) Rr 5 (Some (record { 0 = 0 })) (record { items = ((record { 0 = 0 }) ∷ []) }) 4 ∷ rl.Block (record { 0 = 0 }) (Some (record { 0 = 0 })) 5 0 ∷ rl.Disp (record { 0 = 0 }) (record { 0 = 0 }) ds.Halted 4 0 ∷ rl.Ready (record { 0 = 0 }) (record { items = [] }) ∷ rl.Out (record { 0 = 0 }) 8 ∷ [])
+report =
+    report_line.core_on 0 Rr 5 (Some 0) (0 ∷ []) 4
+    ∷ report_line.block 0 (Some 0) 5 0
+    ∷ report_line.disp 0 0 state.Halted 4 0
+    ∷ report_line.ready 0 []
+    ∷ report_line.out 0 8
+    ∷ []
 
 abbrev text : List ℕ
-text = ended (codes "0 core 0 slice 0 0 fired 0 ran 1 quantum clock 1") ++ ended (codes "1 core 0 slice 0 0 fired 0 ran 1 quantum clock 2") ++ ended (codes "2 core 0 slice 0 0 fired 0 ran 1 call out clock 4") ++ ended (codes "3 core 0 slice 0 0 fired 0 ran 1 halt clock 5") ++ ended (codes "report") ++ ended (codes "core 0 on rr clock 5 home 0 share 0 used 4") ++ ended (codes "block 0 core 0 time 5 armed 0") ++ ended (codes "disp 0 0 halted place 4 due 0") ++ ended (codes "ready 0 -") ++ ended (codes "out 0 8") ++ ended (codes "skipped 0") ++ ended (codes "end")
+text = texts.lines (
+    "0 core 0 slice 0 0 fired 0 ran 1 quantum clock 1"
+    ∷ "1 core 0 slice 0 0 fired 0 ran 1 quantum clock 2"
+    ∷ "2 core 0 slice 0 0 fired 0 ran 1 call out clock 4"
+    ∷ "3 core 0 slice 0 0 fired 0 ran 1 halt clock 5"
+    ∷ "report"
+    ∷ "core 0 on rr clock 5 home 0 share 0 used 4"
+    ∷ "block 0 core 0 time 5 armed 0"
+    ∷ "disp 0 0 halted place 4 due 0"
+    ∷ "ready 0 -"
+    ∷ "out 0 8"
+    ∷ "skipped 0"
+    ∷ "end"
+    ∷ [])
 
 is_played : played image script schedule ≡ record {
   journal = journal;
@@ -83,11 +126,16 @@ unfolding machine_of_blocks
 is_none_lost = refl
 
 -- the journal has told what the state shows
-is_told : option_map facts_told (run image script journal) ≡ option_map (facts_of (core_run image script schedule).state) (run image script journal)
+is_told : option_map facts_told (run image script journal)
+    ≡ option_map (facts_of (core_run image script schedule).state) (run image script journal)
 unfolding machine_with_cores machine_of_blocks
 is_told = refl
 
--- journals with a word changed, and the first bad entry of each
-are_changed : first_bads image script ((texts.slice 0 0 0 0 1 end.Quantum 1 ∷ texts.slice 1 0 0 0 1 end.Quantum 2 ∷ texts.slice 0 0 0 0 1 (end.Call op.Out) 4 ∷ texts.slice 0 0 0 0 1 end.Halt 5 ∷ []) ∷ (texts.slice 0 0 0 0 1 end.Quantum 1 ∷ texts.slice 0 0 0 0 1 end.Quantum 2 ∷ texts.slice 0 0 0 0 1 (end.Call op.Out) 4 ∷ texts.slice 2 0 0 0 1 end.Halt 5 ∷ []) ∷ []) ≡ Some 1 ∷ Some 3 ∷ []
+-- journals that are changed, and the first bad entry of each
+are_changed : first_bads image script (
+    with_line 1 (texts.slice 1 0 0 0 1 end.Quantum 2) journal
+    ∷ with_line 3 (texts.slice 2 0 0 0 1 end.Halt 5) journal
+    ∷ [])
+    ≡ Some 1 ∷ Some 3 ∷ []
 unfolding machine_of_blocks
 are_changed = refl

@@ -1,11 +1,7 @@
 -- A replacement by the due-first kernel: equal dues are broken by number.
-use Rattle.std.specs.Prelude.{◌≡◌, ℕ, List, [], ◌∷◌, ◌++◌, codes, refl, true, Some}
+-- Made by tools/worked_examples.py from examples/ReplacedByEarliestDue.
+use Rattle.std.specs.Prelude.{◌≡◌, ℕ, List, [], ◌∷◌, refl, true, Some}
 use Rattle.std.specs.Option.{option_map}
-use Rattle.dc_rows.specs.Facts.{facts_told, facts_of}
-use Rattle.dc_rows.specs.Tabled.{tabled}
-use Rattle.dc_rows.specs.Computed.{machine_of_blocks, machine_with_cores, whole_texts}
-use Rattle.dc_base.specs.Runs.{run}
-use Rattle.dc_base.specs.CoreRuns.{core_run}
 use Rattle.dc_base.specs.declared.images.Image.{Image}
 use Rattle.dc_base.specs.declared.kernels.Version.TheVariants.{Rr, Edf}
 use Rattle.dc_base.specs.declared.kernels.Clocks.TheVariants.{Kept}
@@ -13,18 +9,23 @@ use Rattle.dc_base.specs.declared.actions.Actor.{Actor}
 use Rattle.dc_base.specs.declared.actions.Action.{Action}
 use Rattle.dc_base.specs.declared.calls.End.TheVariants as end
 use Rattle.dc_base.specs.declared.commands.ScriptLine.{ScriptLine}
-use Rattle.dc_base.specs.declared.commands.ScriptLine.TheVariants as lines
-use Rattle.dc_base.specs.declared.commands.Command.TheVariants as command
-use Rattle.dc_base.specs.declared.commands.Order.TheVariants as order
 use Rattle.dc_base.specs.declared.entries.Entry.{Entry}
-use Rattle.dc_rows.specs.Texts as texts
 use Rattle.dc_base.specs.declared.reports.ReportLine.{ReportLine}
-use Rattle.dc_base.specs.declared.reports.ReportLine.TheVariants as rl
-use Rattle.dc_base.specs.declared.dispatchers.DispState.TheVariants as ds
-use Rattle.dc_rows.specs.Played.{played, judged, first_bads}
-use Rattle.dc_base.specs.TextWords.{ended}
+use Rattle.dc_base.specs.declared.dispatchers.DispState.TheVariants as state
+use Rattle.dc_base.specs.Runs.{run}
+use Rattle.dc_base.specs.CoreRuns.{core_run}
 use Rattle.dc_base.specs.Shown.{all_shown_by}
 use Rattle.dc_base.specs.Headline.{blocks_reported, blocks_held}
+use Rattle.dc_rows.specs.Computed.{machine_of_blocks, machine_with_cores, whole_texts}
+use Rattle.dc_rows.specs.Facts.{facts_told, facts_of}
+use Rattle.dc_rows.specs.Images as image_of
+use Rattle.dc_rows.specs.Orders as order
+use Rattle.dc_rows.specs.Played.{played, judged, first_bads}
+use Rattle.dc_rows.specs.Reports as report_line
+use Rattle.dc_rows.specs.Scripts as script_line
+use Rattle.dc_rows.specs.Tabled.{tabled}
+use Rattle.dc_rows.specs.Texts as texts
+use Rattle.dc_rows.specs.WrongJournals.{with_line}
 
 abbrev image : Image
 image = record {
@@ -33,31 +34,95 @@ image = record {
   quantum = 1;
   slices = 100;
   lines = 0;
-  cores = (record { base = 0; version = Some Rr } ∷ []);
-  blocks = (record {
-    home = Some (record { 0 = 0 });
-    memory = [];
-    ports = 0;
-    signals = 0;
-    disps = (record { code = (251658240 ∷ []); period = 10; due = 5; caps = [] } ∷ record { code = (251658240 ∷ []); period = 10; due = 3; caps = [] } ∷ record { code = (251658240 ∷ []); period = 10; due = 3; caps = [] } ∷ []);
-  } ∷ []);
+  cores =
+      image_of.core 0 Rr ∷ [];
+  blocks =
+      record {
+        home = image_of.home 0;
+        memory = [];
+        ports = 0;
+        signals = 0;
+        disps =
+            record {
+              code =
+                  251658240  -- jmp 0
+                  ∷ [];
+              period = 10;
+              due = 5;
+              caps = [];
+            }
+            ∷ record {
+              code =
+                  251658240  -- jmp 0
+                  ∷ [];
+              period = 10;
+              due = 3;
+              caps = [];
+            }
+            ∷ record {
+              code =
+                  251658240  -- jmp 0
+                  ∷ [];
+              period = 10;
+              due = 3;
+              caps = [];
+            }
+            ∷ [];
+      }
+      ∷ [];
   channels = [];
 }
 
 abbrev script : List ScriptLine
-script = (lines.Boot (command.Replace (record { 0 = 0 }) Edf) ∷ [])
+script =
+    script_line.replace 0 Edf ∷ []
 
 abbrev schedule : List (Actor × Action)
-schedule = (texts.step 0 ∷ texts.step 0 ∷ texts.script ∷ texts.order 0 ∷ texts.script ∷ texts.step 0 ∷ texts.step 0 ∷ texts.step 0 ∷ [])
+schedule =
+    texts.step 0 ∷ texts.step 0 ∷ texts.script ∷ texts.order 0 ∷ texts.script ∷ texts.step 0 ∷ texts.step 0 ∷ texts.step 0 ∷ []
 
 abbrev journal : List Entry
-journal = (texts.slice 0 0 0 0 1 end.Quantum 1 ∷ texts.slice 0 0 1 0 1 end.Quantum 2 ∷ texts.post 0 0 (order.Replace Edf) ∷ texts.replace 0 Edf ∷ texts.done 0 ∷ texts.slice 0 0 1 0 1 end.Quantum 3 ∷ texts.slice 0 0 2 0 1 end.Quantum 4 ∷ texts.slice 0 0 0 0 1 end.Quantum 5 ∷ [])
+journal =
+    texts.slice 0 0 0 0 1 end.Quantum 1
+    ∷ texts.slice 0 0 1 0 1 end.Quantum 2
+    ∷ texts.post 0 0 (order.replace Edf)
+    ∷ texts.replace 0 Edf
+    ∷ texts.done 0
+    ∷ texts.slice 0 0 1 0 1 end.Quantum 3
+    ∷ texts.slice 0 0 2 0 1 end.Quantum 4
+    ∷ texts.slice 0 0 0 0 1 end.Quantum 5
+    ∷ []
 
 abbrev report : List ReportLine
-report = (rl.CoreOn (record { 0 = 0 }) Edf 5 (Some (record { 0 = 0 })) (record { items = ((record { 0 = 0 }) ∷ []) }) 5 ∷ rl.Block (record { 0 = 0 }) (Some (record { 0 = 0 })) 5 0 ∷ rl.Disp (record { 0 = 0 }) (record { 0 = 0 }) ds.Ready 0 15 ∷ rl.Disp (record { 0 = 0 }) (record { 0 = 1 }) ds.Ready 0 13 ∷ rl.Disp (record { 0 = 0 }) (record { 0 = 2 }) ds.Ready 0 13 ∷ rl.Ready (record { 0 = 0 }) (record { items = ((record { 0 = 1 }) ∷ (record { 0 = 2 }) ∷ (record { 0 = 0 }) ∷ []) }) ∷ [])
+report =
+    report_line.core_on 0 Edf 5 (Some 0) (0 ∷ []) 5
+    ∷ report_line.block 0 (Some 0) 5 0
+    ∷ report_line.disp 0 0 state.Ready 0 15
+    ∷ report_line.disp 0 1 state.Ready 0 13
+    ∷ report_line.disp 0 2 state.Ready 0 13
+    ∷ report_line.ready 0 (1 ∷ 2 ∷ 0 ∷ [])
+    ∷ []
 
 abbrev text : List ℕ
-text = ended (codes "0 core 0 slice 0 0 fired 0 ran 1 quantum clock 1") ++ ended (codes "1 core 0 slice 0 1 fired 0 ran 1 quantum clock 2") ++ ended (codes "2 script 0 post 0 replace edf") ++ ended (codes "3 core 0 replace edf") ++ ended (codes "4 script 0 done") ++ ended (codes "5 core 0 slice 0 1 fired 0 ran 1 quantum clock 3") ++ ended (codes "6 core 0 slice 0 2 fired 0 ran 1 quantum clock 4") ++ ended (codes "7 core 0 slice 0 0 fired 0 ran 1 quantum clock 5") ++ ended (codes "report") ++ ended (codes "core 0 on edf clock 5 home 0 share 0 used 5") ++ ended (codes "block 0 core 0 time 5 armed 0") ++ ended (codes "disp 0 0 ready place 0 due 15") ++ ended (codes "disp 0 1 ready place 0 due 13") ++ ended (codes "disp 0 2 ready place 0 due 13") ++ ended (codes "ready 0 1,2,0") ++ ended (codes "skipped 0") ++ ended (codes "end")
+text = texts.lines (
+    "0 core 0 slice 0 0 fired 0 ran 1 quantum clock 1"
+    ∷ "1 core 0 slice 0 1 fired 0 ran 1 quantum clock 2"
+    ∷ "2 script 0 post 0 replace edf"
+    ∷ "3 core 0 replace edf"
+    ∷ "4 script 0 done"
+    ∷ "5 core 0 slice 0 1 fired 0 ran 1 quantum clock 3"
+    ∷ "6 core 0 slice 0 2 fired 0 ran 1 quantum clock 4"
+    ∷ "7 core 0 slice 0 0 fired 0 ran 1 quantum clock 5"
+    ∷ "report"
+    ∷ "core 0 on edf clock 5 home 0 share 0 used 5"
+    ∷ "block 0 core 0 time 5 armed 0"
+    ∷ "disp 0 0 ready place 0 due 15"
+    ∷ "disp 0 1 ready place 0 due 13"
+    ∷ "disp 0 2 ready place 0 due 13"
+    ∷ "ready 0 1,2,0"
+    ∷ "skipped 0"
+    ∷ "end"
+    ∷ [])
 
 is_played : played image script schedule ≡ record {
   journal = journal;
@@ -85,11 +150,16 @@ unfolding machine_of_blocks
 is_none_lost = refl
 
 -- the journal has told what the state shows
-is_told : option_map facts_told (run image script journal) ≡ option_map (facts_of (core_run image script schedule).state) (run image script journal)
+is_told : option_map facts_told (run image script journal)
+    ≡ option_map (facts_of (core_run image script schedule).state) (run image script journal)
 unfolding machine_with_cores machine_of_blocks
 is_told = refl
 
--- journals with a word changed, and the first bad entry of each
-are_changed : first_bads image script ((texts.slice 0 0 0 0 1 end.Quantum 1 ∷ texts.slice 0 0 1 0 1 end.Quantum 2 ∷ texts.post 0 0 (order.Replace Edf) ∷ texts.replace 0 Edf ∷ texts.done 0 ∷ texts.slice 0 0 1 0 1 end.Quantum 3 ∷ texts.slice 2 0 2 0 1 end.Quantum 4 ∷ texts.slice 0 0 0 0 1 end.Quantum 5 ∷ []) ∷ (texts.slice 0 0 0 2 1 end.Quantum 1 ∷ texts.slice 0 0 1 0 1 end.Quantum 2 ∷ texts.post 0 0 (order.Replace Edf) ∷ texts.replace 0 Edf ∷ texts.done 0 ∷ texts.slice 0 0 1 0 1 end.Quantum 3 ∷ texts.slice 0 0 2 0 1 end.Quantum 4 ∷ texts.slice 0 0 0 0 1 end.Quantum 5 ∷ []) ∷ []) ≡ Some 6 ∷ Some 0 ∷ []
+-- journals that are changed, and the first bad entry of each
+are_changed : first_bads image script (
+    with_line 6 (texts.slice 2 0 2 0 1 end.Quantum 4) journal
+    ∷ with_line 0 (texts.slice 0 0 0 2 1 end.Quantum 1) journal
+    ∷ [])
+    ≡ Some 6 ∷ Some 0 ∷ []
 unfolding machine_of_blocks
 are_changed = refl

@@ -2,21 +2,22 @@
 use Rattle.dc_rows.specs.Computed.{machine_with_cores, machine_of_blocks}
 use Rattle.dc_base.specs.CoreRuns.{core_run}
 use Rattle.dc_base.specs.Placed as placed
-use Rattle.std.specs.Prelude.{◌≡◌, ℕ, List, [], ◌∷◌, false, Some, None, refl}
+use Rattle.std.specs.Prelude.{◌≡◌, List, [], ◌∷◌, false, Some, None, refl}
 use Rattle.dc_base.specs.declared.images.Image.{Image}
 use Rattle.dc_base.specs.declared.capabilities.CapKind.TheVariants as kind
+use Rattle.dc_rows.specs.Images as image_of
+use Rattle.dc_rows.specs.Scripts as script_line
 use Rattle.dc_base.specs.declared.kernels.Version.TheVariants.{Rr}
 use Rattle.dc_base.specs.declared.kernels.Clocks.TheVariants.{Kept}
 use Rattle.dc_base.specs.declared.actions.Actor.{Actor}
 use Rattle.dc_base.specs.declared.actions.Action.{Action}
 use Rattle.dc_base.specs.declared.commands.ScriptLine.{ScriptLine}
-use Rattle.dc_base.specs.declared.commands.ScriptLine.TheVariants as lines
 use Rattle.dc_base.specs.declared.commands.Command.TheVariants as command
 use Rattle.dc_rows.specs.Texts as texts
 use Rattle.dc_base.specs.declared.dispatchers.DispState.TheVariants as ds
-use Rattle.std.proofs.Common.{subst, inr, arith, zero, suc, ◌<◌}
-use Rattle.std.specs.Prelude.{slice_get}
+use Rattle.std.proofs.Common.{subst, inr, arith, ◌<◌}
 use Rattle.dc_base.specs.Words.{Each}
+use Rattle.dc_base.proofs.EachLaws.{each_nil, each_cons}
 use Rattle.dc_base.specs.States.{State, Core, Block, Settings, empty, ack, on}
 use Rattle.dc_base.specs.Parts.{whole_memory}
 use Rattle.dc_base.specs.Boot.{refusal}
@@ -28,17 +29,6 @@ use Rattle.dc_base.specs.Progress.{MailboxesFollow, IsRegistered}
 use Rattle.dc_base.specs.Bounded.{IsClocked, DuesWithin, DeadlinesWithin, NumbersWithin}
 use Rattle.std.specs.Prelude.{pos, length}
 
-each_nil : {A : Type 0} (P : ℕ → A → Type 0) → Each [] P
-each_nil P zero x e = cc
-each_nil P (suc i) x e = cc
-
-each_at : {A : Type 0} (P : ℕ → A → Type 0) (x : A) (xs : List A) → P 0 x → ((i : ℕ) (y : A) → slice_get xs i ≡ Some y → P (suc i) y) → (i : ℕ) (y : A) → slice_get (x ∷ xs) i ≡ Some y → P i y
-each_at P x xs p more zero y e = let same : x ≡ y = cc in subst (P 0) same p
-each_at P x xs p more (suc i) y e = more i y e
-
-each_cons : {A : Type 0} (P : ℕ → A → Type 0) (x : A) (xs : List A) → P 0 x → Each xs (λ i. P (suc i)) → Each (x ∷ xs) P
-each_cons P x xs p more = each_at P x xs p more
-
 abbrev image : Image
 image = record {
   format = 1;
@@ -46,19 +36,26 @@ image = record {
   quantum = 4;
   slices = 100;
   lines = 0;
-  cores = (record { base = 1000000; version = Some Rr } ∷ record { base = 0; version = Some Rr } ∷ []);
+  cores = image_of.core 1000000 Rr ∷ image_of.core 0 Rr ∷ [];
   blocks = (record {
-    home = Some (record { 0 = 0 });
+    home = image_of.home 0;
     memory = [];
     ports = 0;
     signals = 1;
-    disps = (record { code = (17825802 ∷ 654376965 ∷ 637665280 ∷ 305397760 ∷ 540016640 ∷ 335544320 ∷ []); period = 1; due = 0; caps = (record { slot = 0; cap = record { kind = kind.Signal (record { 0 = 0 }); rights = 7 } } ∷ []) } ∷ []);
+    disps =
+        record {
+          code = 17825802 ∷ 654376965 ∷ 637665280 ∷ 305397760 ∷ 540016640 ∷ 335544320 ∷ [];
+          period = 1;
+          due = 0;
+          caps = image_of.cap 0 (image_of.signal 0) 7 ∷ [];
+        }
+        ∷ [];
   } ∷ []);
   channels = [];
 }
 
 abbrev script : List ScriptLine
-script = (lines.Boot (command.Move (record { 0 = 0 }) (record { 0 = 1 })) ∷ [])
+script = (script_line.move 0 1 ∷ [])
 
 abbrev schedule : List (Actor × Action)
 schedule = (texts.step 0 ∷ texts.script ∷ texts.order 0 ∷ texts.script ∷ texts.order 1 ∷ [])
@@ -104,7 +101,17 @@ s = record {
   lines = [];
   mailboxes = empty ∷ ack ∷ [];
   consoles = [] ∷ [];
-  script = record { settings = t; lines = script; registry = record { cores = Some (record { version = Rr; home = Some 0; parked = [] }) ∷ Some (record { version = Rr; home = None; parked = [] }) ∷ []; places = Some 0 ∷ [] }; place = 0; raises = 0; posts = 2 };
+  script = record {
+    settings = t;
+    lines = script;
+    registry = record {
+      cores = Some (record { version = Rr; home = Some 0; parked = [] }) ∷ Some (record { version = Rr; home = None; parked = [] }) ∷ [];
+      places = Some 0 ∷ [];
+    };
+    place = 0;
+    raises = 0;
+    posts = 2;
+  };
 }
 
 reached : (core_run image script schedule).state ≡ s
@@ -126,7 +133,11 @@ registered = record { idle = λ e. cc; accepted = λ c h e. accepted_by c e; car
     accepted_by c e = let same : command.Move (record { 0 = 0 }) (record { 0 = 1 }) ≡ c = cc in subst (λ c. refusal s.script.registry c ≡ None) same refl
 
 clocked : IsClocked s
-clocked = record { clocks = each_cons _ core0 (core1 ∷ []) (omega arith) (each_cons _ core1 [] (omega arith) (each_nil _)); from_zero = each_cons _ block0 [] (omega arith) (each_nil _); times = each_cons _ block0 [] (omega arith) (each_nil _) }
+clocked = record {
+  clocks = each_cons _ core0 (core1 ∷ []) (omega arith) (each_cons _ core1 [] (omega arith) (each_nil _));
+  from_zero = each_cons _ block0 [] (omega arith) (each_nil _);
+  times = each_cons _ block0 [] (omega arith) (each_nil _);
+}
 
 dues_within : DuesWithin s
 dues_within = each_cons _ block0 [] (each_cons _ 0 [] (omega arith) (each_nil _)) (each_nil _)

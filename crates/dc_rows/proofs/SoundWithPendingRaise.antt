@@ -8,19 +8,20 @@ use Rattle.dc_base.specs.KeptByBlocks.{HasDispatchers}
 use Rattle.std.specs.Prelude.{◌≡◌, ℕ, List, [], ◌∷◌, true, false, Some, None, refl}
 use Rattle.dc_base.specs.declared.images.Image.{Image}
 use Rattle.dc_base.specs.declared.capabilities.CapKind.TheVariants as kind
+use Rattle.dc_rows.specs.Images as image_of
+use Rattle.dc_rows.specs.Scripts as script_line
 use Rattle.dc_base.specs.declared.kernels.Version.TheVariants.{Rr}
 use Rattle.dc_base.specs.declared.kernels.Clocks.TheVariants.{Kept}
 use Rattle.dc_base.specs.declared.actions.Actor.{Actor}
 use Rattle.dc_base.specs.declared.actions.Action.{Action}
 use Rattle.dc_base.specs.declared.commands.ScriptLine.{ScriptLine}
-use Rattle.dc_base.specs.declared.commands.ScriptLine.TheVariants as lines
 use Rattle.dc_base.specs.declared.commands.Command.TheVariants as command
 use Rattle.dc_rows.specs.Texts as texts
 use Rattle.dc_base.specs.declared.dispatchers.DispState.TheVariants as ds
 use Rattle.dc_base.specs.declared.dispatchers.Wait.TheVariants as wt
 use Rattle.std.proofs.Common.{subst, inr, arith, zero, suc, ◌<◌}
 use Rattle.std.specs.Prelude.{slice_get}
-use Rattle.dc_base.specs.Words.{Each}
+use Rattle.dc_base.proofs.EachLaws.{each_nil, each_cons}
 use Rattle.dc_base.specs.States.{State, Core, Block, Settings, empty, ack, rest}
 use Rattle.dc_base.specs.States.{order as ordered}
 use Rattle.dc_base.specs.declared.commands.Order.{Order}
@@ -45,17 +46,6 @@ use Rattle.dc_base.specs.KeptOutside.{KeepsCounts}
 use Rattle.dc_base.specs.KeptByBlocks.{HasShape, HasReady, HasTimers}
 use Rattle.dc_base.specs.Bounded.{IsClocked, DuesWithin, DeadlinesWithin, NumbersWithin, IsCounted}
 
-each_nil : {A : Type 0} (P : ℕ → A → Type 0) → Each [] P
-each_nil P zero x e = cc
-each_nil P (suc i) x e = cc
-
-each_at : {A : Type 0} (P : ℕ → A → Type 0) (x : A) (xs : List A) → P 0 x → ((i : ℕ) (y : A) → slice_get xs i ≡ Some y → P (suc i) y) → (i : ℕ) (y : A) → slice_get (x ∷ xs) i ≡ Some y → P i y
-each_at P x xs p more zero y e = let same : x ≡ y = cc in subst (P 0) same p
-each_at P x xs p more (suc i) y e = more i y e
-
-each_cons : {A : Type 0} (P : ℕ → A → Type 0) (x : A) (xs : List A) → P 0 x → Each xs (λ i. P (suc i)) → Each (x ∷ xs) P
-each_cons P x xs p more = each_at P x xs p more
-
 abbrev image : Image
 image = record {
   format = 1;
@@ -63,19 +53,26 @@ image = record {
   quantum = 4;
   slices = 100;
   lines = 1;
-  cores = (record { base = 0; version = Some Rr } ∷ record { base = 0; version = Some Rr } ∷ []);
+  cores = image_of.core 0 Rr ∷ image_of.core 0 Rr ∷ [];
   blocks = (record {
-    home = Some (record { 0 = 0 });
+    home = image_of.home 0;
     memory = [];
     ports = 0;
     signals = 1;
-    disps = (record { code = (738263040 ∷ 638713856 ∷ 538968064 ∷ 335544320 ∷ []); period = 1; due = 0; caps = (record { slot = 0; cap = record { kind = kind.Line (record { 0 = 0 }); rights = 7 } } ∷ record { slot = 1; cap = record { kind = kind.Signal (record { 0 = 0 }); rights = 7 } } ∷ []) } ∷ []);
+    disps =
+        record {
+          code = 738263040 ∷ 638713856 ∷ 538968064 ∷ 335544320 ∷ [];
+          period = 1;
+          due = 0;
+          caps = image_of.cap 0 (image_of.line 0) 7 ∷ image_of.cap 1 (image_of.signal 0) 7 ∷ [];
+        }
+        ∷ [];
   } ∷ []);
   channels = [];
 }
 
 abbrev script : List ScriptLine
-script = (lines.Boot (command.Move (record { 0 = 0 }) (record { 0 = 1 })) ∷ lines.Raise (record { 0 = 0 }) ∷ lines.Raise (record { 0 = 0 }) ∷ lines.Route (record { 0 = 0 }) (record { 0 = 1 }) ∷ [])
+script = (script_line.move 0 1 ∷ script_line.raise 0 ∷ script_line.raise 0 ∷ script_line.route 0 1 ∷ [])
 
 abbrev schedule : List (Actor × Action)
 schedule = (texts.step 0 ∷ texts.step 0 ∷ texts.script ∷ texts.order 0 ∷ texts.raise ∷ texts.raise ∷ [])
@@ -104,7 +101,16 @@ state0 = ds.Waits (wt.Signal (record { 0 = 0 }))
 abbrev block0 : Block
 block0 = record {
   control = record {
-    parts = record { memory = whole_memory []; code = (738263040 ∷ 638713856 ∷ 538968064 ∷ 335544320 ∷ []) ∷ []; contexts = context0 ∷ []; caps = held0 ∷ held1 ∷ []; timers = []; next_timer = 0; ports = []; signals = None ∷ [] };
+    parts = record {
+      memory = whole_memory [];
+      code = (738263040 ∷ 638713856 ∷ 538968064 ∷ 335544320 ∷ []) ∷ [];
+      contexts = context0 ∷ [];
+      caps = held0 ∷ held1 ∷ [];
+      timers = [];
+      next_timer = 0;
+      ports = [];
+      signals = None ∷ [];
+    };
     states = state0 ∷ [];
     dues = 0 ∷ [];
     periods = 1 ∷ [];
@@ -114,7 +120,13 @@ block0 = record {
 }
 
 abbrev wire0 : Wire
-wire0 = record { bound = Some (0, 0); route = Some 0; pending = Some 1; offer = None; counts = record { raised = 2; stray = 0; merged = 1; given = 0; joined = 0 } }
+wire0 = record {
+  bound = Some (0, 0);
+  route = Some 0;
+  pending = Some 1;
+  offer = None;
+  counts = record { raised = 2; stray = 0; merged = 1; given = 0; joined = 0 };
+}
 
 abbrev s : State
 s = record {
@@ -124,7 +136,17 @@ s = record {
   lines = wire0 ∷ [];
   mailboxes = ack ∷ empty ∷ [];
   consoles = [] ∷ [];
-  script = record { settings = t; lines = script; registry = record { cores = Some (record { version = Rr; home = Some 0; parked = [] }) ∷ Some (record { version = Rr; home = None; parked = [] }) ∷ []; places = Some 0 ∷ [] }; place = 0; raises = 2; posts = 1 };
+  script = record {
+    settings = t;
+    lines = script;
+    registry = record {
+      cores = Some (record { version = Rr; home = Some 0; parked = [] }) ∷ Some (record { version = Rr; home = None; parked = [] }) ∷ [];
+      places = Some 0 ∷ [];
+    };
+    place = 0;
+    raises = 2;
+    posts = 1;
+  };
 }
 
 reached : (core_run image script schedule).state ≡ s
@@ -135,7 +157,10 @@ none_true : false ≡ true → ⊥
 none_true e = cc
 
 placed : IsPlaced s
-placed = record { listed = each_cons _ block0 [] tt (each_nil _); only = each_cons _ core0 (core1 ∷ []) (λ b e. absurd (none_true e)) (each_cons _ core1 [] (λ b e. absurd (none_true e)) (each_nil _)) }
+placed = record {
+  listed = each_cons _ block0 [] tt (each_nil _);
+  only = each_cons _ core0 (core1 ∷ []) (λ b e. absurd (none_true e)) (each_cons _ core1 [] (λ b e. absurd (none_true e)) (each_nil _));
+}
 
 shares : AreShares s
 shares = each_cons _ core0 (core1 ∷ []) (record { once = λ b. omega arith; home = omega arith; parked = omega arith; off = λ e. refl })
@@ -189,10 +214,19 @@ counts = each_cons _ wire0 [] refl (each_nil _)
 
 counted : IsCounted s
 unfolding machine_with_cores machine_of_blocks
-counted = record { used = each_cons _ core0 (core1 ∷ []) (omega arith) (each_cons _ core1 [] (omega arith) (each_nil _)); sent = each_nil _; raised = each_cons _ wire0 [] (omega arith) (each_nil _); given = each_cons _ wire0 [] (omega arith) (each_nil _) }
+counted = record {
+  used = each_cons _ core0 (core1 ∷ []) (omega arith) (each_cons _ core1 [] (omega arith) (each_nil _));
+  sent = each_nil _;
+  raised = each_cons _ wire0 [] (omega arith) (each_nil _);
+  given = each_cons _ wire0 [] (omega arith) (each_nil _);
+}
 
 clocked : IsClocked s
-clocked = record { clocks = each_cons _ core0 (core1 ∷ []) (omega arith) (each_cons _ core1 [] (omega arith) (each_nil _)); from_zero = each_cons _ block0 [] tt (each_nil _); times = each_cons _ block0 [] (omega arith) (each_nil _) }
+clocked = record {
+  clocks = each_cons _ core0 (core1 ∷ []) (omega arith) (each_cons _ core1 [] (omega arith) (each_nil _));
+  from_zero = each_cons _ block0 [] tt (each_nil _);
+  times = each_cons _ block0 [] (omega arith) (each_nil _);
+}
 
 dues_within : DuesWithin s
 dues_within = each_cons _ block0 [] (each_cons _ 0 [] (omega arith) (each_nil _)) (each_nil _)
@@ -204,7 +238,17 @@ numbers_within : NumbersWithin s
 numbers_within = each_cons _ block0 [] (omega arith) (each_nil _)
 
 shape : HasShape block0.control
-shape = record { memory = refl; some = omega arith; disps = omega arith; code = refl; contexts = refl; dues = refl; periods = refl; ports = omega arith; signals = omega arith }
+shape = record {
+  memory = refl;
+  some = omega arith;
+  disps = omega arith;
+  code = refl;
+  contexts = refl;
+  dues = refl;
+  periods = refl;
+  ports = omega arith;
+  signals = omega arith;
+}
 
 ready : HasReady block0.control
 ready zero = refl
@@ -279,17 +323,26 @@ nothing_at : {A : Type 0} (i : ℕ) (x : A) → slice_get {X = A} [] i ≡ Some 
 nothing_at zero x e = cc
 nothing_at (suc i) x e = cc
 
-one_block : (l b c : ℕ) (x y : Block) → slice_get s.blocks b ≡ Some x → slice_get s.blocks c ≡ Some y → has_cap_of_line l x.control ≡ true → has_cap_of_line l y.control ≡ true → b ≡ c
+one_block : (l b c : ℕ) (x y : Block) → slice_get s.blocks b ≡ Some x → slice_get s.blocks c ≡ Some y
+    → has_cap_of_line l x.control ≡ true → has_cap_of_line l y.control ≡ true → b ≡ c
 one_block l zero zero x y e f g h = refl
 one_block l zero (suc c) x y e f g h = absurd (nothing_at c y f)
 one_block l (suc b) c x y e f g h = absurd (nothing_at b x e)
 
 kept_lines : KeepsLines s
-kept_lines = record { one = one_block; none = each_cons _ wire0 [] (λ h. absurd (none_true h)) (each_nil _); rights = each_cons _ wire0 [] tt (each_nil _); pending = each_cons _ wire0 [] (omega arith) (each_nil _) }
+kept_lines = record {
+  one = one_block;
+  none = each_cons _ wire0 [] (λ h. absurd (none_true h)) (each_nil _);
+  rights = each_cons _ wire0 [] tt (each_nil _);
+  pending = each_cons _ wire0 [] (omega arith) (each_nil _);
+}
 
 cap_order : (i j : ℕ) (h k : Seat) → i < j → slice_get block0.control.parts.caps i ≡ Some h → slice_get block0.control.parts.caps j ≡ Some k → h.slot < k.slot
 cap_order zero zero h k lt e f = absurd (omega (arith, lt))
-cap_order zero (suc zero) h k lt e f = let first : held0 ≡ h = cc in let second : held1 ≡ k = cc in subst (λ (v : Seat). v.slot < k.slot) first (subst (λ (v : Seat). held0.slot < v.slot) second (omega arith))
+cap_order zero (suc zero) h k lt e f =
+    let first : held0 ≡ h = cc in
+    let second : held1 ≡ k = cc in
+    subst (λ (v : Seat). v.slot < k.slot) first (subst (λ (v : Seat). held0.slot < v.slot) second (omega arith))
 cap_order zero (suc (suc j)) h k lt e f = absurd (nothing_at j k f)
 cap_order (suc i) zero h k lt e f = absurd (omega (arith, lt))
 cap_order (suc zero) (suc zero) h k lt e f = absurd (omega (arith, lt))

@@ -1,30 +1,30 @@
 -- A core is started, a block moves there, and two commands are refused.
-use Rattle.std.specs.Prelude.{◌≡◌, ℕ, List, [], ◌∷◌, ◌++◌, codes, refl, true, false, Some, None}
+-- Made by tools/worked_examples.py from examples/StartThenMove.
+use Rattle.std.specs.Prelude.{◌≡◌, ℕ, List, [], ◌∷◌, refl, true, false, None, Some}
 use Rattle.std.specs.Option.{option_map}
-use Rattle.dc_rows.specs.Facts.{facts_told, facts_of}
-use Rattle.dc_rows.specs.Tabled.{tabled}
-use Rattle.dc_rows.specs.Computed.{machine_of_blocks, machine_with_cores, whole_texts}
-use Rattle.dc_base.specs.Runs.{run}
-use Rattle.dc_base.specs.CoreRuns.{core_run}
 use Rattle.dc_base.specs.declared.images.Image.{Image}
 use Rattle.dc_base.specs.declared.kernels.Version.TheVariants.{Rr}
 use Rattle.dc_base.specs.declared.kernels.Clocks.TheVariants.{Kept}
 use Rattle.dc_base.specs.declared.actions.Actor.{Actor}
 use Rattle.dc_base.specs.declared.actions.Action.{Action}
 use Rattle.dc_base.specs.declared.commands.ScriptLine.{ScriptLine}
-use Rattle.dc_base.specs.declared.commands.ScriptLine.TheVariants as lines
-use Rattle.dc_base.specs.declared.commands.Command.TheVariants as command
-use Rattle.dc_base.specs.declared.commands.Order.TheVariants as order
-use Rattle.dc_base.specs.declared.commands.Refusal.TheVariants as refusal
 use Rattle.dc_base.specs.declared.entries.Entry.{Entry}
-use Rattle.dc_rows.specs.Texts as texts
 use Rattle.dc_base.specs.declared.reports.ReportLine.{ReportLine}
-use Rattle.dc_base.specs.declared.reports.ReportLine.TheVariants as rl
-use Rattle.dc_base.specs.declared.dispatchers.DispState.TheVariants as ds
-use Rattle.dc_rows.specs.Played.{played, judged, first_bads}
-use Rattle.dc_base.specs.TextWords.{ended}
+use Rattle.dc_base.specs.declared.dispatchers.DispState.TheVariants as state
+use Rattle.dc_base.specs.Runs.{run}
+use Rattle.dc_base.specs.CoreRuns.{core_run}
 use Rattle.dc_base.specs.Shown.{all_shown_by}
 use Rattle.dc_base.specs.Headline.{blocks_reported, blocks_held}
+use Rattle.dc_rows.specs.Computed.{machine_of_blocks, machine_with_cores, whole_texts}
+use Rattle.dc_rows.specs.Facts.{facts_told, facts_of}
+use Rattle.dc_rows.specs.Images as image_of
+use Rattle.dc_rows.specs.Orders as order
+use Rattle.dc_rows.specs.Played.{played, judged, first_bads}
+use Rattle.dc_rows.specs.Reports as report_line
+use Rattle.dc_rows.specs.Scripts as script_line
+use Rattle.dc_rows.specs.Tabled.{tabled}
+use Rattle.dc_rows.specs.Texts as texts
+use Rattle.dc_rows.specs.WrongJournals.{with_line, lines_swapped}
 
 abbrev image : Image
 image = record {
@@ -33,31 +33,84 @@ image = record {
   quantum = 4;
   slices = 100;
   lines = 0;
-  cores = (record { base = 0; version = Some Rr } ∷ record { base = 0; version = None } ∷ []);
-  blocks = (record {
-    home = Some (record { 0 = 0 });
-    memory = [];
-    ports = 0;
-    signals = 0;
-    disps = (record { code = (16777223 ∷ 536870912 ∷ 335544320 ∷ []); period = 1; due = 0; caps = [] } ∷ []);
-  } ∷ []);
+  cores =
+      image_of.core 0 Rr ∷ image_of.core_off 0 ∷ [];
+  blocks =
+      record {
+        home = image_of.home 0;
+        memory = [];
+        ports = 0;
+        signals = 0;
+        disps =
+            record {
+              code =
+                  16777223  -- li r0 7
+                  ∷ 536870912  -- out r0
+                  ∷ 335544320  -- halt
+                  ∷ [];
+              period = 1;
+              due = 0;
+              caps = [];
+            }
+            ∷ [];
+      }
+      ∷ [];
   channels = [];
 }
 
 abbrev script : List ScriptLine
-script = (lines.Boot (command.Start (record { 0 = 1 }) Rr) ∷ lines.Boot (command.Move (record { 0 = 0 }) (record { 0 = 1 })) ∷ lines.Boot (command.Move (record { 0 = 0 }) (record { 0 = 1 })) ∷ lines.Boot (command.Start (record { 0 = 1 }) Rr) ∷ [])
+script =
+    script_line.start 1 Rr ∷ script_line.move 0 1 ∷ script_line.move 0 1 ∷ script_line.start 1 Rr ∷ []
 
 abbrev schedule : List (Actor × Action)
-schedule = (texts.script ∷ texts.order 1 ∷ texts.script ∷ texts.script ∷ texts.order 0 ∷ texts.script ∷ texts.order 1 ∷ texts.script ∷ texts.script ∷ texts.script ∷ [])
+schedule =
+    texts.script ∷ texts.order 1 ∷ texts.script ∷ texts.script ∷ texts.order 0 ∷ texts.script ∷ texts.order 1 ∷ texts.script ∷ texts.script ∷ texts.script
+    ∷ []
 
 abbrev journal : List Entry
-journal = (texts.post 0 1 (order.Start Rr) ∷ texts.start 1 Rr 0 ∷ texts.done 0 ∷ texts.post 1 0 (order.Release (record { 0 = 0 })) ∷ texts.release 0 0 0 ∷ texts.post 1 1 (order.Adopt (record { 0 = 0 }) false) ∷ texts.adopt 1 0 false 0 ∷ texts.done 1 ∷ texts.refused 2 (refusal.OnThatCore (record { 0 = 0 }) (record { 0 = 1 })) ∷ texts.refused 3 (refusal.AlreadyOn (record { 0 = 1 })) ∷ [])
+journal =
+    texts.post 0 1 (order.start Rr)
+    ∷ texts.start 1 Rr 0
+    ∷ texts.done 0
+    ∷ texts.post 1 0 (order.release 0)
+    ∷ texts.release 0 0 0
+    ∷ texts.post 1 1 (order.adopt 0 false)
+    ∷ texts.adopt 1 0 false 0
+    ∷ texts.done 1
+    ∷ texts.refused 2 (order.on_that_core 0 1)
+    ∷ texts.refused 3 (order.already_on 1)
+    ∷ []
 
 abbrev report : List ReportLine
-report = (rl.CoreOn (record { 0 = 0 }) Rr 0 None (record { items = [] }) 0 ∷ rl.CoreOn (record { 0 = 1 }) Rr 0 (Some (record { 0 = 0 })) (record { items = ((record { 0 = 0 }) ∷ []) }) 0 ∷ rl.Block (record { 0 = 0 }) (Some (record { 0 = 1 })) 0 0 ∷ rl.Disp (record { 0 = 0 }) (record { 0 = 0 }) ds.Ready 0 0 ∷ rl.Ready (record { 0 = 0 }) (record { items = ((record { 0 = 0 }) ∷ []) }) ∷ [])
+report =
+    report_line.core_on 0 Rr 0 None [] 0
+    ∷ report_line.core_on 1 Rr 0 (Some 0) (0 ∷ []) 0
+    ∷ report_line.block 0 (Some 1) 0 0
+    ∷ report_line.disp 0 0 state.Ready 0 0
+    ∷ report_line.ready 0 (0 ∷ [])
+    ∷ []
 
 abbrev text : List ℕ
-text = ended (codes "0 script 0 post 1 start rr") ++ ended (codes "1 core 1 start rr clock 0") ++ ended (codes "2 script 0 done") ++ ended (codes "3 script 1 post 0 release 0") ++ ended (codes "4 core 0 release 0 time 0") ++ ended (codes "5 script 1 post 1 adopt 0 home") ++ ended (codes "6 core 1 adopt 0 home time 0") ++ ended (codes "7 script 1 done") ++ ended (codes "8 script 2 refused 8 OnThatCore 0 1") ++ ended (codes "9 script 3 refused 1 AlreadyOn 1") ++ ended (codes "report") ++ ended (codes "core 0 on rr clock 0 home - share - used 0") ++ ended (codes "core 1 on rr clock 0 home 0 share 0 used 0") ++ ended (codes "block 0 core 1 time 0 armed 0") ++ ended (codes "disp 0 0 ready place 0 due 0") ++ ended (codes "ready 0 0") ++ ended (codes "skipped 0") ++ ended (codes "end")
+text = texts.lines (
+    "0 script 0 post 1 start rr"
+    ∷ "1 core 1 start rr clock 0"
+    ∷ "2 script 0 done"
+    ∷ "3 script 1 post 0 release 0"
+    ∷ "4 core 0 release 0 time 0"
+    ∷ "5 script 1 post 1 adopt 0 home"
+    ∷ "6 core 1 adopt 0 home time 0"
+    ∷ "7 script 1 done"
+    ∷ "8 script 2 refused 8 OnThatCore 0 1"
+    ∷ "9 script 3 refused 1 AlreadyOn 1"
+    ∷ "report"
+    ∷ "core 0 on rr clock 0 home - share - used 0"
+    ∷ "core 1 on rr clock 0 home 0 share 0 used 0"
+    ∷ "block 0 core 1 time 0 armed 0"
+    ∷ "disp 0 0 ready place 0 due 0"
+    ∷ "ready 0 0"
+    ∷ "skipped 0"
+    ∷ "end"
+    ∷ [])
 
 is_played : played image script schedule ≡ record {
   journal = journal;
@@ -85,11 +138,16 @@ unfolding machine_of_blocks
 is_none_lost = refl
 
 -- the journal has told what the state shows
-is_told : option_map facts_told (run image script journal) ≡ option_map (facts_of (core_run image script schedule).state) (run image script journal)
+is_told : option_map facts_told (run image script journal)
+    ≡ option_map (facts_of (core_run image script schedule).state) (run image script journal)
 unfolding machine_with_cores machine_of_blocks
 is_told = refl
 
--- journals with a word changed, and the first bad entry of each
-are_changed : first_bads image script ((texts.post 0 3 (order.Start Rr) ∷ texts.start 1 Rr 0 ∷ texts.done 0 ∷ texts.post 1 0 (order.Release (record { 0 = 0 })) ∷ texts.release 0 0 0 ∷ texts.post 1 1 (order.Adopt (record { 0 = 0 }) false) ∷ texts.adopt 1 0 false 0 ∷ texts.done 1 ∷ texts.refused 2 (refusal.OnThatCore (record { 0 = 0 }) (record { 0 = 1 })) ∷ texts.refused 3 (refusal.AlreadyOn (record { 0 = 1 })) ∷ []) ∷ (texts.post 0 1 (order.Start Rr) ∷ texts.start 1 Rr 0 ∷ texts.done 0 ∷ texts.post 1 0 (order.Release (record { 0 = 0 })) ∷ texts.release 0 0 0 ∷ texts.post 1 1 (order.Adopt (record { 0 = 0 }) false) ∷ texts.adopt 1 0 false 0 ∷ texts.refused 2 (refusal.OnThatCore (record { 0 = 0 }) (record { 0 = 1 })) ∷ texts.done 1 ∷ texts.refused 3 (refusal.AlreadyOn (record { 0 = 1 })) ∷ []) ∷ []) ≡ Some 0 ∷ Some 7 ∷ []
+-- journals that are changed, and the first bad entry of each
+are_changed : first_bads image script (
+    with_line 0 (texts.post 0 3 (order.start Rr)) journal
+    ∷ lines_swapped 7 journal
+    ∷ [])
+    ≡ Some 0 ∷ Some 7 ∷ []
 unfolding machine_of_blocks
 are_changed = refl

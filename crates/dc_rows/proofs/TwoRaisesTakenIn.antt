@@ -1,13 +1,8 @@
 -- Two raises taken in before the block waits.
-use Rattle.std.specs.Prelude.{◌≡◌, ℕ, List, [], ◌∷◌, ◌++◌, codes, refl, true, Some, None}
+-- Made by tools/worked_examples.py from examples/TwoRaisesTakenIn.
+use Rattle.std.specs.Prelude.{◌≡◌, ℕ, List, [], ◌∷◌, refl, true, None, Some}
 use Rattle.std.specs.Option.{option_map}
-use Rattle.dc_rows.specs.Facts.{facts_told, facts_of}
-use Rattle.dc_rows.specs.Tabled.{tabled}
-use Rattle.dc_rows.specs.Computed.{machine_of_blocks, machine_with_cores, whole_texts}
-use Rattle.dc_base.specs.Runs.{run}
-use Rattle.dc_base.specs.CoreRuns.{core_run}
 use Rattle.dc_base.specs.declared.images.Image.{Image}
-use Rattle.dc_base.specs.declared.capabilities.CapKind.TheVariants as kind
 use Rattle.dc_base.specs.declared.kernels.Version.TheVariants.{Rr}
 use Rattle.dc_base.specs.declared.kernels.Clocks.TheVariants.{Kept}
 use Rattle.dc_base.specs.declared.actions.Actor.{Actor}
@@ -15,19 +10,24 @@ use Rattle.dc_base.specs.declared.actions.Action.{Action}
 use Rattle.dc_base.specs.declared.calls.Op.TheVariants as op
 use Rattle.dc_base.specs.declared.calls.End.TheVariants as end
 use Rattle.dc_base.specs.declared.interrupts.Latched.TheVariants as how
-use Rattle.dc_base.specs.declared.interrupts.Raised.TheVariants as raise
 use Rattle.dc_base.specs.declared.commands.ScriptLine.{ScriptLine}
-use Rattle.dc_base.specs.declared.commands.ScriptLine.TheVariants as lines
 use Rattle.dc_base.specs.declared.entries.Entry.{Entry}
-use Rattle.dc_rows.specs.Texts as texts
 use Rattle.dc_base.specs.declared.reports.ReportLine.{ReportLine}
-use Rattle.dc_base.specs.declared.reports.ReportLine.TheVariants as rl
-use Rattle.dc_base.specs.declared.dispatchers.DispState.TheVariants as ds
-use Rattle.dc_base.specs.declared.interrupts.Source.TheVariants as so
-use Rattle.dc_rows.specs.Played.{played, judged, first_bads}
-use Rattle.dc_base.specs.TextWords.{ended}
+use Rattle.dc_base.specs.declared.dispatchers.DispState.TheVariants as state
+use Rattle.dc_base.specs.Runs.{run}
+use Rattle.dc_base.specs.CoreRuns.{core_run}
 use Rattle.dc_base.specs.Shown.{all_shown_by}
 use Rattle.dc_base.specs.Headline.{blocks_reported, blocks_held}
+use Rattle.dc_rows.specs.Computed.{machine_of_blocks, machine_with_cores, whole_texts}
+use Rattle.dc_rows.specs.Facts.{facts_told, facts_of}
+use Rattle.dc_rows.specs.Images as image_of
+use Rattle.dc_rows.specs.Orders as order
+use Rattle.dc_rows.specs.Played.{played, judged, first_bads}
+use Rattle.dc_rows.specs.Reports as report_line
+use Rattle.dc_rows.specs.Scripts as script_line
+use Rattle.dc_rows.specs.Tabled.{tabled}
+use Rattle.dc_rows.specs.Texts as texts
+use Rattle.dc_rows.specs.WrongJournals.{with_line, lines_swapped}
 
 abbrev image : Image
 image = record {
@@ -36,31 +36,81 @@ image = record {
   quantum = 4;
   slices = 100;
   lines = 1;
-  cores = (record { base = 0; version = Some Rr } ∷ record { base = 0; version = Some Rr } ∷ []);
-  blocks = (record {
-    home = Some (record { 0 = 0 });
-    memory = [];
-    ports = 0;
-    signals = 1;
-    disps = (record { code = (738263040 ∷ 251658241 ∷ []); period = 1; due = 0; caps = (record { slot = 0; cap = record { kind = kind.Line (record { 0 = 0 }); rights = 7 } } ∷ record { slot = 1; cap = record { kind = kind.Signal (record { 0 = 0 }); rights = 7 } } ∷ []) } ∷ []);
-  } ∷ []);
+  cores =
+      image_of.core 0 Rr ∷ image_of.core 0 Rr ∷ [];
+  blocks =
+      record {
+        home = image_of.home 0;
+        memory = [];
+        ports = 0;
+        signals = 1;
+        disps =
+            record {
+              code =
+                  738263040  -- bind s0 s1
+                  ∷ 251658241  -- jmp 1
+                  ∷ [];
+              period = 1;
+              due = 0;
+              caps =
+                  image_of.cap 0 (image_of.line 0) 7 ∷ image_of.cap 1 (image_of.signal 0) 7 ∷ [];
+            }
+            ∷ [];
+      }
+      ∷ [];
   channels = [];
 }
 
 abbrev script : List ScriptLine
-script = (lines.Raise (record { 0 = 0 }) ∷ lines.Raise (record { 0 = 0 }) ∷ [])
+script =
+    script_line.raise 0 ∷ script_line.raise 0 ∷ []
 
 abbrev schedule : List (Actor × Action)
-schedule = (texts.step 0 ∷ texts.raise ∷ texts.intake 0 0 ∷ texts.raise ∷ texts.intake 0 0 ∷ [])
+schedule =
+    texts.step 0 ∷ texts.raise ∷ texts.intake 0 0 ∷ texts.raise ∷ texts.intake 0 0 ∷ []
 
 abbrev journal : List Entry
-journal = (texts.slice 0 0 0 0 0 (end.Call op.Bind) 1 ∷ texts.raised 0 0 (raise.Pended 1) ∷ texts.taken_in 0 0 1 0 0 how.Latched ∷ texts.raised 1 0 (raise.Pended 2) ∷ texts.taken_in 0 0 2 0 0 how.Coalesced ∷ [])
+journal =
+    texts.slice 0 0 0 0 0 (end.Call op.Bind) 1
+    ∷ texts.raised 0 0 (order.pending 1)
+    ∷ texts.taken_in 0 0 1 0 0 how.Latched
+    ∷ texts.raised 1 0 (order.pending 2)
+    ∷ texts.taken_in 0 0 2 0 0 how.Coalesced
+    ∷ []
 
 abbrev report : List ReportLine
-report = (rl.CoreOn (record { 0 = 0 }) Rr 1 (Some (record { 0 = 0 })) (record { items = ((record { 0 = 0 }) ∷ []) }) 1 ∷ rl.CoreOn (record { 0 = 1 }) Rr 0 None (record { items = [] }) 0 ∷ rl.Block (record { 0 = 0 }) (Some (record { 0 = 0 })) 1 0 ∷ rl.Disp (record { 0 = 0 }) (record { 0 = 0 }) ds.Ready 1 0 ∷ rl.Ready (record { 0 = 0 }) (record { items = ((record { 0 = 0 }) ∷ []) }) ∷ rl.Cap (record { 0 = 0 }) (record { 0 = 0 }) (record { kind = kind.Line (record { 0 = 0 }); rights = 7 }) None ∷ rl.Cap (record { 0 = 0 }) (record { 0 = 1 }) (record { kind = kind.Signal (record { 0 = 0 }); rights = 7 }) None ∷ rl.Signal (record { 0 = 0 }) (record { 0 = 0 }) (record { source = so.Line (record { 0 = 0 }); value = 1 }) ∷ rl.Line (record { 0 = 0 }) (Some ((record { 0 = 0 }), (record { 0 = 0 }))) (Some (record { 0 = 0 })) 2 0 0 0 1 1 0 ∷ [])
+report =
+    report_line.core_on 0 Rr 1 (Some 0) (0 ∷ []) 1
+    ∷ report_line.core_on 1 Rr 0 None [] 0
+    ∷ report_line.block 0 (Some 0) 1 0
+    ∷ report_line.disp 0 0 state.Ready 1 0
+    ∷ report_line.ready 0 (0 ∷ [])
+    ∷ report_line.cap 0 0 (image_of.line 0) 7 None
+    ∷ report_line.cap 0 1 (image_of.signal 0) 7 None
+    ∷ report_line.signal 0 0 (report_line.from_line 0) 1
+    ∷ report_line.wire 0 (Some (0, 0)) (Some 0) 2 0 0 0 1 1 0
+    ∷ []
 
 abbrev text : List ℕ
-text = ended (codes "0 core 0 slice 0 0 fired 0 ran 0 call bind clock 1") ++ ended (codes "1 script 0 raise 0 1 pending") ++ ended (codes "2 core 0 intake 0 1 0 0 latched") ++ ended (codes "3 script 1 raise 0 2 pending") ++ ended (codes "4 core 0 intake 0 2 0 0 coalesced") ++ ended (codes "report") ++ ended (codes "core 0 on rr clock 1 home 0 share 0 used 1") ++ ended (codes "core 1 on rr clock 0 home - share - used 0") ++ ended (codes "block 0 core 0 time 1 armed 0") ++ ended (codes "disp 0 0 ready place 1 due 0") ++ ended (codes "ready 0 0") ++ ended (codes "cap 0 0 line 0 rights 7 parent -") ++ ended (codes "cap 0 1 signal 0 rights 7 parent -") ++ ended (codes "signal 0 0 line 0 1") ++ ended (codes "line 0 to 0 0 route 0 raised 2 stray 0 pending 0 merged 0 latched 1 joined 1 delivered 0") ++ ended (codes "skipped 0") ++ ended (codes "end")
+text = texts.lines (
+    "0 core 0 slice 0 0 fired 0 ran 0 call bind clock 1"
+    ∷ "1 script 0 raise 0 1 pending"
+    ∷ "2 core 0 intake 0 1 0 0 latched"
+    ∷ "3 script 1 raise 0 2 pending"
+    ∷ "4 core 0 intake 0 2 0 0 coalesced"
+    ∷ "report"
+    ∷ "core 0 on rr clock 1 home 0 share 0 used 1"
+    ∷ "core 1 on rr clock 0 home - share - used 0"
+    ∷ "block 0 core 0 time 1 armed 0"
+    ∷ "disp 0 0 ready place 1 due 0"
+    ∷ "ready 0 0"
+    ∷ "cap 0 0 line 0 rights 7 parent -"
+    ∷ "cap 0 1 signal 0 rights 7 parent -"
+    ∷ "signal 0 0 line 0 1"
+    ∷ "line 0 to 0 0 route 0 raised 2 stray 0 pending 0 merged 0 latched 1 joined 1 delivered 0"
+    ∷ "skipped 0"
+    ∷ "end"
+    ∷ [])
 
 is_played : played image script schedule ≡ record {
   journal = journal;
@@ -88,11 +138,16 @@ unfolding machine_of_blocks
 is_none_lost = refl
 
 -- the journal has told what the state shows
-is_told : option_map facts_told (run image script journal) ≡ option_map (facts_of (core_run image script schedule).state) (run image script journal)
+is_told : option_map facts_told (run image script journal)
+    ≡ option_map (facts_of (core_run image script schedule).state) (run image script journal)
 unfolding machine_with_cores machine_of_blocks
 is_told = refl
 
--- journals with a word changed, and the first bad entry of each
-are_changed : first_bads image script ((texts.slice 0 0 0 2 0 (end.Call op.Bind) 1 ∷ texts.raised 0 0 (raise.Pended 1) ∷ texts.taken_in 0 0 1 0 0 how.Latched ∷ texts.raised 1 0 (raise.Pended 2) ∷ texts.taken_in 0 0 2 0 0 how.Coalesced ∷ []) ∷ (texts.slice 0 0 0 0 0 (end.Call op.Bind) 1 ∷ texts.raised 0 0 (raise.Pended 1) ∷ texts.taken_in 0 0 1 0 0 how.Latched ∷ texts.taken_in 0 0 2 0 0 how.Coalesced ∷ texts.raised 1 0 (raise.Pended 2) ∷ []) ∷ []) ≡ Some 0 ∷ Some 3 ∷ []
+-- journals that are changed, and the first bad entry of each
+are_changed : first_bads image script (
+    with_line 0 (texts.slice 0 0 0 2 0 (end.Call op.Bind) 1) journal
+    ∷ lines_swapped 3 journal
+    ∷ [])
+    ≡ Some 0 ∷ Some 3 ∷ []
 unfolding machine_of_blocks
 are_changed = refl

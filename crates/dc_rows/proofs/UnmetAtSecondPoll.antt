@@ -1,28 +1,30 @@
 -- The second poll of two is unmet.
-use Rattle.std.specs.Prelude.{◌≡◌, ℕ, List, [], ◌∷◌, ◌++◌, codes, refl, true, Some}
+-- Made by tools/worked_examples.py from examples/UnmetAtSecondPoll.
+use Rattle.std.specs.Prelude.{◌≡◌, ℕ, List, [], ◌∷◌, refl, true, Some}
 use Rattle.std.specs.Option.{option_map}
-use Rattle.dc_rows.specs.Facts.{facts_told, facts_of}
-use Rattle.dc_rows.specs.Tabled.{tabled}
-use Rattle.dc_rows.specs.Computed.{machine_of_blocks, machine_with_cores, whole_texts}
-use Rattle.dc_base.specs.Runs.{run}
-use Rattle.dc_base.specs.CoreRuns.{core_run}
 use Rattle.dc_base.specs.declared.images.Image.{Image}
 use Rattle.dc_base.specs.declared.kernels.Version.TheVariants.{Rr}
 use Rattle.dc_base.specs.declared.kernels.Clocks.TheVariants.{Kept}
 use Rattle.dc_base.specs.declared.actions.Actor.{Actor}
 use Rattle.dc_base.specs.declared.actions.Action.{Action}
 use Rattle.dc_base.specs.declared.commands.ScriptLine.{ScriptLine}
-use Rattle.dc_base.specs.declared.commands.ScriptLine.TheVariants as lines
 use Rattle.dc_base.specs.declared.entries.Entry.{Entry}
-use Rattle.dc_rows.specs.Texts as texts
+use Rattle.dc_base.specs.declared.entries.Reason.TheVariants as why
 use Rattle.dc_base.specs.declared.reports.ReportLine.{ReportLine}
-use Rattle.dc_base.specs.declared.reports.ReportLine.TheVariants as rl
-use Rattle.dc_base.specs.declared.dispatchers.DispState.TheVariants as ds
-use Rattle.dc_base.specs.declared.entries.Reason.TheVariants as rs
-use Rattle.dc_rows.specs.Played.{played, judged, first_bads}
-use Rattle.dc_base.specs.TextWords.{ended}
+use Rattle.dc_base.specs.declared.dispatchers.DispState.TheVariants as state
+use Rattle.dc_base.specs.Runs.{run}
+use Rattle.dc_base.specs.CoreRuns.{core_run}
 use Rattle.dc_base.specs.Shown.{all_shown_by}
 use Rattle.dc_base.specs.Headline.{blocks_reported, blocks_held}
+use Rattle.dc_rows.specs.Computed.{machine_of_blocks, machine_with_cores, whole_texts}
+use Rattle.dc_rows.specs.Facts.{facts_told, facts_of}
+use Rattle.dc_rows.specs.Images as image_of
+use Rattle.dc_rows.specs.Played.{played, judged, first_bads}
+use Rattle.dc_rows.specs.Reports as report_line
+use Rattle.dc_rows.specs.Scripts as script_line
+use Rattle.dc_rows.specs.Tabled.{tabled}
+use Rattle.dc_rows.specs.Texts as texts
+use Rattle.dc_rows.specs.WrongJournals.{with_line}
 
 abbrev image : Image
 image = record {
@@ -31,36 +33,69 @@ image = record {
   quantum = 4;
   slices = 100;
   lines = 0;
-  cores = (record { base = 0; version = Some Rr } ∷ []);
-  blocks = (record {
-    home = Some (record { 0 = 0 });
-    memory = [];
-    ports = 0;
-    signals = 0;
-    disps = (record { code = (16777223 ∷ 536870912 ∷ 335544320 ∷ []); period = 1; due = 0; caps = [] } ∷ []);
-  } ∷ []);
+  cores =
+      image_of.core 0 Rr ∷ [];
+  blocks =
+      record {
+        home = image_of.home 0;
+        memory = [];
+        ports = 0;
+        signals = 0;
+        disps =
+            record {
+              code =
+                  16777223  -- li r0 7
+                  ∷ 536870912  -- out r0
+                  ∷ 335544320  -- halt
+                  ∷ [];
+              period = 1;
+              due = 0;
+              caps = [];
+            }
+            ∷ [];
+      }
+      ∷ [];
   channels = [];
 }
 
 abbrev script : List ScriptLine
-script = (lines.Await (record { 0 = 0 }) 1 2 ∷ [])
+script =
+    script_line.await 0 1 2 ∷ []
 
 abbrev schedule : List (Actor × Action)
-schedule = (texts.script ∷ texts.script ∷ [])
+schedule =
+    texts.script ∷ texts.script ∷ []
 
 abbrev journal : List Entry
-journal = (texts.unmet 0 0 0 ∷ [])
+journal =
+    texts.unmet 0 0 0
+    ∷ []
 
 abbrev report : List ReportLine
-report = (rl.CoreOn (record { 0 = 0 }) Rr 0 (Some (record { 0 = 0 })) (record { items = ((record { 0 = 0 }) ∷ []) }) 0 ∷ rl.Block (record { 0 = 0 }) (Some (record { 0 = 0 })) 0 0 ∷ rl.Disp (record { 0 = 0 }) (record { 0 = 0 }) ds.Ready 0 0 ∷ rl.Ready (record { 0 = 0 }) (record { items = ((record { 0 = 0 }) ∷ []) }) ∷ [])
+report =
+    report_line.core_on 0 Rr 0 (Some 0) (0 ∷ []) 0
+    ∷ report_line.block 0 (Some 0) 0 0
+    ∷ report_line.disp 0 0 state.Ready 0 0
+    ∷ report_line.ready 0 (0 ∷ [])
+    ∷ []
 
 abbrev text : List ℕ
-text = ended (codes "0 script 0 unmet 0 0") ++ ended (codes "report") ++ ended (codes "core 0 on rr clock 0 home 0 share 0 used 0") ++ ended (codes "block 0 core 0 time 0 armed 0") ++ ended (codes "disp 0 0 ready place 0 due 0") ++ ended (codes "ready 0 0") ++ ended (codes "skipped 1") ++ ended (codes "end")
+text = texts.lines (
+    "0 script 0 unmet 0 0"
+    ∷ "report"
+    ∷ "core 0 on rr clock 0 home 0 share 0 used 0"
+    ∷ "block 0 core 0 time 0 armed 0"
+    ∷ "disp 0 0 ready place 0 due 0"
+    ∷ "ready 0 0"
+    ∷ "skipped 1"
+    ∷ "end"
+    ∷ [])
 
 is_played : played image script schedule ≡ record {
   journal = journal;
   skipped = 1;
-  reasons = (Some (rs.Few 0 1) ∷ []);
+  reasons =
+      Some (why.Few 0 1) ∷ [];
   report = report;
   text = text;
   again = journal;
@@ -83,11 +118,16 @@ unfolding machine_of_blocks
 is_none_lost = refl
 
 -- the journal has told what the state shows
-is_told : option_map facts_told (run image script journal) ≡ option_map (facts_of (core_run image script schedule).state) (run image script journal)
+is_told : option_map facts_told (run image script journal)
+    ≡ option_map (facts_of (core_run image script schedule).state) (run image script journal)
 unfolding machine_with_cores machine_of_blocks
 is_told = refl
 
--- journals with a word changed, and the first bad entry of each
-are_changed : first_bads image script ((texts.unmet 0 2 0 ∷ []) ∷ (texts.unmet 0 2 0 ∷ []) ∷ []) ≡ Some 0 ∷ Some 0 ∷ []
+-- journals that are changed, and the first bad entry of each
+are_changed : first_bads image script (
+    with_line 0 (texts.unmet 0 2 0) journal
+    ∷ with_line 0 (texts.unmet 0 2 0) journal
+    ∷ [])
+    ≡ Some 0 ∷ Some 0 ∷ []
 unfolding machine_of_blocks
 are_changed = refl

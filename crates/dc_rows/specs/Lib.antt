@@ -1,5 +1,11 @@
 pub mod Computed
 pub mod Facts
+pub mod Images
+pub mod Orders
 pub mod Played
+pub mod Reports
+pub mod Scripts
 pub mod Tabled
 pub mod Texts
+pub mod Touches
+pub mod WrongJournals

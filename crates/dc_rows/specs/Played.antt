@@ -13,7 +13,7 @@ use Rattle.dc_base.specs.Turns.{Outcome, did, not_enabled, spent}
 use Rattle.dc_base.specs.Cores.{core_step}
 use Rattle.dc_base.specs.CoreRuns.{Run, after_outcome, core_run, own_schedule}
 use Rattle.dc_base.specs.Report.{report_lines}
-use Rattle.dc_base.specs.PlayText.{played_text}
+use Rattle.dc_base.specs.PlayText.{play_text}
 use Rattle.dc_base.specs.Runs.{Seen, run, first_bad}
 use Rattle.dc_base.specs.Shown.{ShownLine, shown}
 
@@ -47,7 +47,7 @@ played image lines schedule =
       skipped = r.skipped;
       reasons = reasons image lines schedule;
       report = report_lines r.state;
-      text = played_text r;
+      text = play_text image lines schedule;
       again = (core_run image lines (own_schedule lines r.journal)).journal;
     }
 

@@ -1,5 +1,6 @@
--- Schedules and entries, written as their texts read.
-use Rattle.std.specs.Prelude.{ℕ, Bool}
+-- Schedules, entries and whole texts, written as they read.
+use Prim.Native.String.{String}
+use Rattle.std.specs.Prelude.{ℕ, Bool, List, codes, flat_map}
 use Rattle.dc_base.specs.declared.actions.Actor.{Actor}
 use Rattle.dc_base.specs.declared.actions.Actor.TheVariants as actor
 use Rattle.dc_base.specs.declared.actions.Action.{Action}
@@ -13,6 +14,11 @@ use Rattle.dc_base.specs.declared.commands.Refusal.{Refusal}
 use Rattle.dc_base.specs.declared.entries.Entry.{Entry}
 use Rattle.dc_base.specs.declared.entries.What.TheVariants as what
 use Rattle.dc_base.specs.Outcomes.{by_core, by_script}
+use Rattle.dc_base.specs.TextWords.{ended}
+
+-- a text by its lines
+abbrev pub lines : List String → List ℕ
+lines ws = flat_map (λ (w : String). ended (codes w)) ws
 
 abbrev pub step : ℕ → Actor × Action
 step c = (actor.Core (record { 0 = c }), action.Step)

@@ -1,0 +1,176 @@
+-- A claim of a line that is not there touches its core and its block alone.
+-- Made by tools/worked_examples.py from examples/ClaimOfNoLine.
+use Rattle.std.specs.Prelude.{◌≡◌, ℕ, List, [], ◌∷◌, refl, true, None, Some}
+use Rattle.std.specs.Option.{option_map}
+use Rattle.dc_base.specs.declared.images.Image.{Image}
+use Rattle.dc_base.specs.declared.kernels.Version.TheVariants.{Rr}
+use Rattle.dc_base.specs.declared.kernels.Clocks.TheVariants.{Kept}
+use Rattle.dc_base.specs.declared.actions.Actor.{Actor}
+use Rattle.dc_base.specs.declared.actions.Action.{Action}
+use Rattle.dc_base.specs.declared.calls.Op.TheVariants as op
+use Rattle.dc_base.specs.declared.calls.End.TheVariants as end
+use Rattle.dc_base.specs.declared.commands.ScriptLine.{ScriptLine}
+use Rattle.dc_base.specs.declared.entries.Entry.{Entry}
+use Rattle.dc_base.specs.declared.entries.Reason.TheVariants as why
+use Rattle.dc_base.specs.declared.reports.ReportLine.{ReportLine}
+use Rattle.dc_base.specs.declared.dispatchers.DispState.TheVariants as state
+use Rattle.dc_base.specs.Changes.{a_core, a_block}
+use Rattle.dc_base.specs.Runs.{run}
+use Rattle.dc_base.specs.CoreRuns.{core_run}
+use Rattle.dc_base.specs.Shown.{all_shown_by}
+use Rattle.dc_base.specs.Headline.{blocks_reported, blocks_held}
+use Rattle.dc_rows.specs.Computed.{machine_of_blocks, machine_with_cores, whole_texts}
+use Rattle.dc_rows.specs.Facts.{facts_told, facts_of}
+use Rattle.dc_rows.specs.Images as image_of
+use Rattle.dc_rows.specs.Played.{played, judged, first_bads}
+use Rattle.dc_rows.specs.Reports as report_line
+use Rattle.dc_rows.specs.Tabled.{tabled}
+use Rattle.dc_rows.specs.Texts as texts
+use Rattle.dc_rows.specs.Touches.{touches}
+use Rattle.dc_rows.specs.WrongJournals.{with_line}
+
+abbrev image : Image
+image = record {
+  format = 1;
+  clocks = Kept;
+  quantum = 4;
+  slices = 100;
+  lines = 1;
+  cores =
+      image_of.core 0 Rr ∷ image_of.core 0 Rr ∷ [];
+  blocks =
+      record {
+        home = image_of.home 0;
+        memory = [];
+        ports = 0;
+        signals = 0;
+        disps =
+            record {
+              code =
+                  335544320  -- halt
+                  ∷ [];
+              period = 1;
+              due = 0;
+              caps = [];
+            }
+            ∷ [];
+      }
+      ∷ record {
+        home = image_of.home 1;
+        memory = [];
+        ports = 0;
+        signals = 0;
+        disps =
+            record {
+              code =
+                  771883013  -- claim s0 s2 5
+                  ∷ 335544320  -- halt
+                  ∷ [];
+              period = 1;
+              due = 0;
+              caps =
+                  image_of.cap 0 (image_of.recvend 0) 7 ∷ [];
+            }
+            ∷ [];
+      }
+      ∷ [];
+  channels =
+      image_of.channel 0 1 1 ∷ [];
+}
+
+abbrev script : List ScriptLine
+script = []
+
+abbrev schedule : List (Actor × Action)
+schedule =
+    texts.step 1 ∷ texts.step 0 ∷ texts.step 1 ∷ []
+
+abbrev journal : List Entry
+journal =
+    texts.slice 1 1 0 0 0 (end.Trap 12) 1
+    ∷ texts.slice 0 0 0 0 1 end.Halt 1
+    ∷ []
+
+abbrev report : List ReportLine
+report =
+    report_line.core_on 0 Rr 1 (Some 0) (0 ∷ []) 1
+    ∷ report_line.core_on 1 Rr 1 (Some 1) (1 ∷ []) 1
+    ∷ report_line.block 0 (Some 0) 1 0
+    ∷ report_line.disp 0 0 state.Halted 0 0
+    ∷ report_line.ready 0 []
+    ∷ report_line.block 1 (Some 1) 1 0
+    ∷ report_line.disp 1 0 (state.Trapped 12) 0 0
+    ∷ report_line.ready 1 []
+    ∷ report_line.cap 1 0 (image_of.recvend 0) 7 None
+    ∷ report_line.channel 0 0 0
+    ∷ report_line.wire 0 None None 0 0 0 0 0 0 0
+    ∷ []
+
+abbrev text : List ℕ
+text = texts.lines (
+    "0 core 1 slice 1 0 fired 0 ran 0 trap 12 clock 1"
+    ∷ "1 core 0 slice 0 0 fired 0 ran 1 halt clock 1"
+    ∷ "report"
+    ∷ "core 0 on rr clock 1 home 0 share 0 used 1"
+    ∷ "core 1 on rr clock 1 home 1 share 1 used 1"
+    ∷ "block 0 core 0 time 1 armed 0"
+    ∷ "disp 0 0 halted place 0 due 0"
+    ∷ "ready 0 -"
+    ∷ "block 1 core 1 time 1 armed 0"
+    ∷ "disp 1 0 trap 12 place 0 due 0"
+    ∷ "ready 1 -"
+    ∷ "cap 1 0 recvend 0 rights 7 parent -"
+    ∷ "channel 0 sent 0 taken 0"
+    ∷ "line 0 to - - route - raised 0 stray 0 pending 0 merged 0 latched 0 joined 0 delivered 0"
+    ∷ "skipped 1"
+    ∷ "end"
+    ∷ [])
+
+is_played : played image script schedule ≡ record {
+  journal = journal;
+  skipped = 1;
+  reasons =
+      Some why.Nothing ∷ [];
+  report = report;
+  text = text;
+  again = journal;
+}
+unfolding machine_with_cores whole_texts
+is_played = refl
+
+is_judged : judged image script journal ≡ record { is_run = true; shown = Some (all_shown_by report) }
+unfolding machine_of_blocks
+is_judged = refl
+
+-- each entry touches what the table says
+is_tabled : tabled image script schedule ≡ true
+unfolding machine_with_cores
+is_tabled = refl
+
+-- each block is reported once, on the core that holds it or at rest
+is_none_lost : blocks_reported report ≡ blocks_held image journal
+unfolding machine_of_blocks
+is_none_lost = refl
+
+-- the journal has told what the state shows
+is_told : option_map facts_told (run image script journal)
+    ≡ option_map (facts_of (core_run image script schedule).state) (run image script journal)
+unfolding machine_with_cores machine_of_blocks
+is_told = refl
+
+-- journals that are changed, and the first bad entry of each
+are_changed : first_bads image script (
+    with_line 0 (texts.slice 1 1 0 0 0 (end.Trap 8) 1) journal
+    ∷ with_line 0 (texts.slice 1 1 0 0 0 (end.Call op.Claim) 1) journal
+    ∷ [])
+    ≡ Some 0 ∷ Some 0 ∷ []
+unfolding machine_of_blocks
+are_changed = refl
+
+-- the objects that each entry touches, by name and by number
+is_touched : touches image script schedule ≡
+    (a_core 1 ∷ a_block 1 ∷ [], 1 ∷ 3 ∷ [])
+    ∷ (a_core 0 ∷ a_block 0 ∷ [], 0 ∷ 2 ∷ [])
+    ∷ []
+unfolding machine_with_cores
+is_touched = refl
