@@ -16,7 +16,8 @@ use Rattle.dc_base.specs.Lines.{line_latch}
 use Rattle.dc_base.specs.Slices.{need_of, due_after}
 use Rattle.dc_base.specs.States.{State, time_on}
 use Rattle.dc_base.specs.Words.{Each, change}
-use Rattle.dc_sound.proofs.EntryKinds.{IsSlice, IsSliceNone, outside_at, sliced_of, after_timers, Kind}
+use Rattle.dc_sound.proofs.EntryKinds.{IsSlice, IsSliceNone, sliced_of, after_timers, Kind}
+use Rattle.dc_block_sound.proofs.OutsideAt.{outside_at}
 use Rattle.dc_sound.proofs.Budgets.{budget_grows, slice_spends}
 use Rattle.dc_sound.proofs.ControlRules.{ControlLaws, controls_kept}
 use Rattle.dc_sound.proofs.TimerWalk.{TimerLaws, ended, end_is, slice_has, fired_has}

@@ -43,21 +43,15 @@ use Rattle.dc_base.specs.Policies.{pick}
 use Rattle.dc_base.specs.Ports.{latch_at, how_latched}
 use Rattle.dc_base.specs.Raises.{raise_on, raise_line, raise_turn, first_unbegun}
 use Rattle.dc_base.specs.Script.{next_raise}
-use Rattle.dc_base.specs.Serving.{Outside, nothing_outside}
+use Rattle.dc_base.specs.Serving.{Outside}
 use Rattle.dc_base.specs.Slices.{Sliced, Halfway, halfway, need_of, slice_end, without_ready}
 use Rattle.dc_base.specs.States.{State, Core, Block, with_control, Member, Mailbox, empty, order, ack, Script, Whereabouts, rest, on, time_on, time_at, place_on}
-use Rattle.dc_base.specs.Steps.{with_clock, core_after_slice, as_console, as_channel, as_line, look_outside, outside_change, slice_outcome, finish_slice, slice_picked, slice_from, slice_turn, next_due, idle_outcome, step_on, step_turn, is_runnable}
+use Rattle.dc_base.specs.Steps.{with_clock, core_after_slice, look_outside, outside_change, slice_outcome, finish_slice, slice_picked, slice_from, slice_turn, next_due, idle_outcome, step_on, step_turn, is_runnable}
 use Rattle.dc_base.specs.Turns.{Outcome, did, not_enabled, spent, Looked, Turn, ends, look_blocks, look_block, look_line, looked_at, outcome}
 use Rattle.dc_base.specs.Wakes.{ready_again, after_wake, wake_sender, wake_receiver, wake_waiting, wake_in, wake_turn}
 use Rattle.dc_base.specs.Words.{is_number}
 use Rattle.dc_base.specs.Boot as boot
-
--- the object outside block b that a call needs
-abbrev pub outside_at : State → ℕ → Need → Outside
-outside_at s b needs.Nothing = nothing_outside
-outside_at s b needs.Console = as_console (slice_get s.consoles b)
-outside_at s b (needs.Channel x) = as_channel (slice_get s.channels x.0)
-outside_at s b (needs.Line l) = as_line (slice_get s.lines l.0)
+use Rattle.dc_block_sound.proofs.OutsideAt.{outside_at}
 
 -- a control block after its due timers fired, on a core whose clock stands so, at this offset
 abbrev pub after_timers : ℕ → ℤ → ControlBlock → ControlBlock
