@@ -15,7 +15,8 @@ use Rattle.dc_base.specs.declared.entries.What.{What}
 use Rattle.dc_base.specs.declared.entries.What.TheVariants as what
 use Rattle.dc_base.specs.Words.{bind}
 use Rattle.dc_base.specs.Boot.{orders}
-use Rattle.dc_base.specs.States.{State, Core, Block, Script, time_at}
+use Rattle.dc_base.specs.NeedsHere.{need_here}
+use Rattle.dc_base.specs.States.{State, Settings, Core, Block, Script, time_at}
 use Rattle.dc_base.specs.Firing.{fire_all}
 use Rattle.dc_base.specs.Slices.{halfway, need_of, without_ready, Halfway}
 use Rattle.dc_base.specs.Changes.{Name, a_core, a_block, a_channel, a_line, a_mailbox, a_console, the_script}
@@ -30,13 +31,13 @@ needed b needs.Console = a_console b ∷ []
 needed b (needs.Channel x) = a_channel x.0 ∷ []
 needed b (needs.Line l) = a_line l.0 ∷ []
 
-abbrev pub half_needs : ℕ → Option Halfway → List Name
-half_needs b None = []
-half_needs b (Some h) = needed b (need_of h)
+abbrev pub half_needs : Settings → ℕ → Option Halfway → List Name
+half_needs t b None = []
+half_needs t b (Some h) = needed b (need_here t (need_of h))
 
 abbrev pub slice_needs : Core → ℕ → ℕ → Option Block → List Name
 slice_needs k b d None = []
-slice_needs k b d (Some x) = half_needs b (halfway k.settings.quantum (time_at k.clock x.whereabouts) (without_ready d (fire_all (time_at k.clock x.whereabouts) x.control).control) d)
+slice_needs k b d (Some x) = half_needs k.settings b (halfway k.settings.quantum (time_at k.clock x.whereabouts) (without_ready d (fire_all (time_at k.clock x.whereabouts) x.control).control) d)
 
 abbrev pub channel_of : Option DispState → List Name
 channel_of (Some (disp.Waits (wait.Csend x))) = a_channel x.0 ∷ []

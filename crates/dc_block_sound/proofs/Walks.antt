@@ -1,5 +1,5 @@
 -- The changes of a control block that a wake, a firing, a latch, the plain part and the end of a slice make.
-use Rattle.std.proofs.Common.{◌≡◌, ℕ, zero, suc, ◌<◌, ◌≤◌, List, [], ◌∷◌, ◌++◌, Bool, true, false, Option, Some, None, refl, sym, ap, ◌∙◌, subst, arith, length}
+use Rattle.std.proofs.Common.{◌≡◌, ℕ, zero, suc, ◌<◌, ◌≤◌, List, [], ◌∷◌, ◌++◌, Bool, true, false, Option, Some, None, refl, sym, ap, ◌∙◌, subst, arith, length, inl, inr}
 use Rattle.std.specs.Prelude.{slice_get, slice_set, nat_lt, nat_le, ◌==◌, if◌then◌else◌, ⊤}
 use Rattle.std.proofs.lemmas.List.{set-set}
 use Rattle.dc_base.specs.declared.calls.Op.{Op}
@@ -22,16 +22,17 @@ use Rattle.dc_base.specs.Instructions.{decode}
 use Rattle.dc_base.specs.Kernel.{Call, faults, waits, makes, takes, prints, sends, receives, binds, gives, claims}
 use Rattle.dc_base.specs.Lines.{Wire, rights_over, line_latch}
 use Rattle.dc_base.specs.Named.{instr_of}
+use Rattle.dc_base.specs.NeedsHere.{need_here}
 use Rattle.dc_base.specs.Parts.{Parts, with_context}
 use Rattle.dc_base.specs.Serving.{need, Outside, nothing_outside, console_outside, channel_outside, line_outside, Served, faulted, served, serve, serve_send, serve_receive, serve_claim}
 use Rattle.dc_base.specs.Serving as serving
 use Rattle.dc_base.specs.Slices.{Halfway, stopped, stands, need_of, after_served, with_ahead, after_ahead, halfway, due_after, slice_end}
-use Rattle.dc_base.specs.States.{State}
+use Rattle.dc_base.specs.States.{State, Settings}
 use Rattle.dc_base.specs.Steps.{as_console, as_channel, as_line}
 use Rattle.dc_base.specs.Timers.{is_sooner, sooner, soonest, if_due, due_timer}
 use Rattle.dc_base.specs.Wakes.{ready_again}
 use Rattle.dc_base.proofs.CodeLaws.{decode-some}
-use Rattle.dc_block_sound.proofs.OutsideAt.{outside_at}
+use Rattle.dc_block_sound.proofs.OutsideAt.{outside_at, here_or_none}
 use Rattle.dc_block_sound.proofs.Elements.{set_here}
 use Rattle.dc_base.specs.KeptByBlocks.{AllReady, is_ready}
 use Rattle.dc_block_sound.proofs.PlainMoves.{Acts, acts}
@@ -261,6 +262,20 @@ module _ (s : State) (d : ℕ) (C : ℕ → Type 0) where
     serve_fits (gives l x rights p) allowed f = given_at l x rights p f.2 (slice_get s.lines l)
     serve_fits (claims l x slot p) allowed f = claimed_at l x slot p f allowed (slice_get s.lines l) refl
 
+    -- a call that gets nothing claims nothing
+    none_fits : (call : Call) → CallFits s C y d call → ServedFits y (serve c b call nothing_outside)
+    unfolding serve
+    none_fits (faults n) f = f
+    none_fits (waits w) f = f
+    none_fits (makes w p) f = f
+    none_fits (takes l p) f = f
+    none_fits (prints w p) f = (omega arith, omega arith)
+    none_fits (sends x m p) f = (f.0, f.2)
+    none_fits (receives x address p) f = (f.0, f.1)
+    none_fits (binds l signal p) f = (omega arith, omega arith)
+    none_fits (gives l x rights p) f = (omega arith, omega arith)
+    none_fits (claims l x slot p) f = (omega arith, omega arith)
+
     after_steps : (ran : ℕ) (o : Op) (n : Need) (out : Outside) (a : Served) → ServedFits y a → Steps s d C y (after_served y d ran o n out a).control
     after_steps ran o n out (faulted m) f = one s d C y _ (stands_still y (disp.Trapped m) f)
     after_steps ran o n out (serving.held_up w) f = one s d C y _ (held_up y w f)
@@ -277,6 +292,19 @@ module _ (s : State) (d : ℕ) (C : ℕ → Type 0) where
       let out = outside_at s b (need call) in
       let sl = after_served y d ran o (need call) out (serve c b call out) in
       joined s d C x y _ f.0 (joined s d C y sl.control _ (after_steps c b y ran o (need call) out (serve c b call out) (serve_fits c b y call allowed f.1)) (due_steps v sl.control))
+
+  pub end_without : (c b : ℕ) (v : Version) (x : ControlBlock) (h : Halfway) → HalfFits x h → Steps s d C x (slice_end c b v d h nothing_outside).control
+  unfolding slice_end
+  end_without c b v x (stopped y ran e) f = joined s d C x y _ f (due_steps v y)
+  end_without c b v x (stands y ran o call) f =
+      let sl = after_served y d ran o (need call) nothing_outside (serve c b call nothing_outside) in
+      joined s d C x y _ f.0 (joined s d C y sl.control _ (after_steps c b y ran o (need call) nothing_outside (serve c b call nothing_outside) (none_fits c b y call f.1)) (due_steps v sl.control))
+
+  pub end_here : (t : Settings) (c b : ℕ) (v : Version) (x : ControlBlock) (h : Halfway) → ((m : ℕ) → HalfClaims s h m → C m) → HalfFits x h → Steps s d C x (slice_end c b v d h (outside_at s b (need_here t (need_of h)))).control
+  end_here t c b v x h allowed f = elim (here_or_none t s b (need_of h)) [
+    | inl same ↦ subst (λ out. Steps s d C x (slice_end c b v d h out).control) (sym same) (end_steps c b v x h allowed f)
+    | inr gone ↦ subst (λ out. Steps s d C x (slice_end c b v d h out).control) (sym gone) (end_without c b v x h f)
+  ]
 
   pub again_steps : (x : ControlBlock) → Steps s d C x (ready_again d x)
   again_steps x = further x _ _ (stands_still x disp.Ready tt) (one s d C _ _ (readied _ _))

@@ -1,4 +1,5 @@
 -- A step makes an entry that is in range: a slice, a slice without a dispatcher, or idle.
+use Rattle.dc_base.specs.NeedsHere.{need_here}
 use Rattle.std.proofs.Common.{◌≡◌, ℕ, ◌+◌, ◌*◌, ◌^◌, ◌<◌, ◌≤◌, Bool, true, false, List, [], ◌∷◌, Option, Some, None, refl, ap, sym, subst, ◌∙◌, arith, length, map}
 use Rattle.std.specs.Prelude.{⊤, slice_get, slice_set, ◌==◌, ◌||◌, find, is_some, if◌then◌else◌, ℤ}
 use Rattle.std.specs.List.{sum_by}
@@ -67,9 +68,9 @@ module _ (s : State) (p : IsSound s) (c : ℕ) (k : Core) (core_at : slice_get s
       y = after_timers k.clock offset x.control
 
       sliced_shown : (d : ℕ) → pick v y.dues y.ready ≡ Some d → (h : Halfway) → halfway k.settings.quantum time (without_ready d y) d ≡ Some h →
-          let sl = slice_end c b v d h (outside_at s b (need_of h)) in IsShown (slice_entry c b d (fire_all time x.control).count sl (k.clock + sl.advance))
+          let sl = slice_end c b v d h (outside_at s b (need_here k.settings (need_of h))) in IsShown (slice_entry c b d (fire_all time x.control).count sl (k.clock + sl.advance))
       sliced_shown d picked h at =
-          let out = outside_at s b (need_of h) in
+          let out = outside_at s b (need_here k.settings (need_of h)) in
           let sl = slice_end c b v d h out in
           let entry = slice_entry c b d (fire_all time x.control).count sl (k.clock + sl.advance) in
           let chs = core_becomes c (core_after_slice k b (k.clock + sl.advance)) ∷ block_becomes b (with_control sl.control x) ∷ outside_change b sl.need sl.outside in
@@ -92,7 +93,7 @@ module _ (s : State) (p : IsSound s) (c : ℕ) (k : Core) (core_at : slice_get s
 
       finish_comes : (d : ℕ) → pick v y.dues y.ready ≡ Some d → (o : Option Halfway) → halfway k.settings.quantum time (without_ready d y) d ≡ o → Comes s (finish_slice c k b x v d (fire_all time x.control).count o)
       finish_comes d picked None at = tt
-      finish_comes d picked (Some h) at = outside_comes s b (need_of h) (λ out. ends (slice_outcome c k b x d (fire_all time x.control).count (slice_end c b v d h out))) (sliced_shown d picked h at)
+      finish_comes d picked (Some h) at = outside_comes s b (need_here k.settings (need_of h)) (λ out. ends (slice_outcome c k b x d (fire_all time x.control).count (slice_end c b v d h out))) (sliced_shown d picked h at)
 
       none_shown : IsShown (by_core c (what.SliceNone (record { 0 = b }) (fire_all time x.control).count (k.clock + 1)))
       none_shown =

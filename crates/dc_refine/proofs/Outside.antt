@@ -1,11 +1,14 @@
 -- The object outside its block that a call needs, in a state.
-use Rattle.std.proofs.Common.{◌≡◌, ℕ, List, Option, Some, None, refl, ap}
-use Rattle.std.specs.Prelude.{slice_get}
+use Rattle.std.proofs.lemmas.Option.{slice_get_past}
+use Rattle.std.proofs.Common.{◌≡◌, ℕ, List, Bool, true, false, Option, Some, None, refl, sym, ap, arith, length}
+use Rattle.std.specs.Prelude.{slice_get, nat_lt, if◌then◌else◌}
+use Rattle.std.proofs.lemmas.Bool.Decides.{nat_tests}
 use Rattle.dc_base.specs.declared.calls.Need.{Need}
 use Rattle.dc_base.specs.declared.calls.Need.TheVariants as needs
 use Rattle.dc_base.specs.Channels.{Ring}
 use Rattle.dc_base.specs.Lines.{Wire}
-use Rattle.dc_base.specs.States.{State, Core, Block}
+use Rattle.dc_base.specs.NeedsHere.{need_here}
+use Rattle.dc_base.specs.States.{State, Settings, Core, Block}
 use Rattle.dc_base.specs.Serving.{Outside, nothing_outside, console_outside, channel_outside, line_outside}
 use Rattle.dc_base.specs.Changes.{apply}
 use Rattle.dc_base.specs.Turns.{Outcome, outcome, ends}
@@ -18,6 +21,18 @@ outside_at s b needs.Nothing = nothing_outside
 outside_at s b needs.Console = as_console (slice_get s.consoles b)
 outside_at s b (needs.Channel x) = as_channel (slice_get s.channels x.0)
 outside_at s b (needs.Line l) = as_line (slice_get s.lines l.0)
+
+-- a line that is not looked at is not there
+pub outside_here : (s : State) (b : ℕ) (n : Need) (t : Settings) → length s.lines ≡ t.lines → outside_at s b (need_here t n) ≡ outside_at s b n
+unfolding outside_at
+outside_here s b needs.Nothing t e = refl
+outside_here s b needs.Console t e = refl
+outside_here s b (needs.Channel x) t e = refl
+outside_here s b (needs.Line l) t e = by_test (nat_lt l.0 t.lines) refl
+  where
+    by_test : (test : Bool) → nat_lt l.0 t.lines ≡ test → outside_at s b (if test then needs.Line l else needs.Nothing) ≡ as_line (slice_get s.lines l.0)
+    by_test true q = refl
+    by_test false q = sym (ap as_line (slice_get_past s.lines l.0 (grind (arith, nat_tests, q, e))))
 
 -- the state with that object as it is afterwards
 unfoldable pub with_outside : ℕ → Need → Outside → State → State

@@ -11,6 +11,7 @@ use Rattle.dc_base.specs.Policies.{pick}
 use Rattle.dc_base.specs.Blocks.{Blocks}
 use Rattle.dc_base.specs.ControlBlocks.{ControlBlock}
 use Rattle.dc_base.specs.States.{State, Core, Block, Settings, Whereabouts, rest, on, time_of, time_at}
+use Rattle.dc_base.specs.NeedsHere.{need_here}
 use Rattle.dc_base.specs.Slices.{Halfway, need_of, slice_end, halfway, without_ready, after_ahead}
 use Rattle.dc_base.specs.StandsFor.{StandsFor, ring_of}
 use Rattle.dc_base.specs.Sound.{IsSound}
@@ -28,7 +29,7 @@ use Rattle.dc_refine.proofs.Elements.{there_below}
 use Rattle.dc_refine.proofs.Clocks.{InTime}
 use Rattle.dc_refine.proofs.FireFacts.{fired_well, ready_from, pick_listed}
 use Rattle.dc_refine.proofs.Good.{Good}
-use Rattle.dc_refine.proofs.Outside.{outside_at, outcome-look}
+use Rattle.dc_refine.proofs.Outside.{outside_at, outside_here, outcome-look}
 use Rattle.dc_refine.proofs.Slice.{SliceAt, slice_follows}
 use Rattle.dc_refine.proofs.SliceNone.{slice_none_follows}
 
@@ -71,6 +72,9 @@ module _ (terms : Terms) (lines : List ScriptLine) (s : State) (t : Blocks) (of 
   quantum_is : terms.quantum ≡ k.settings.quantum
   quantum_is = ap (λ (m : Terms). m.quantum) of.same_terms ∙ ap (λ (t : Settings). t.quantum) (sym (sound.settled.same c k core_at))
 
+  lines_are : length s.lines ≡ k.settings.lines
+  lines_are = sound.settled.lines ∙ ap (λ (t : Settings). t.lines) (sym (sound.settled.same c k core_at))
+
   module _ (b : ℕ) (x : Block) (block_at : slice_get s.blocks b ≡ Some x) (listed : has k.share b ≡ true) where
     here : (ws : List ℕ) × SliceAt s t c b k x ws v1
     here = slice_at-sound s t sound stands c b k x v1 core_at block_at listed is_on
@@ -88,9 +92,10 @@ module _ (terms : Terms) (lines : List ScriptLine) (s : State) (t : Blocks) (of 
         (h : Halfway) → after_ahead time (x0 d) d (ahead time code k.settings.quantum ctx (x0 d).parts.memory) (ahead time code k.settings.quantum ctx (x0 d).parts.memory).end ≡ h →
         Good terms lines s t (outcome s (finish_slice c k b x v d f.count (Some h)))
     stands_good v d ready code code_at ctx context_at h e =
-        subst (Good terms lines s t) (sym (outcome-look s b (need_of h) (λ out. slice_outcome c k b x d f.count (slice_end c b v d h out))))
+        subst (Good terms lines s t) (sym (outcome-look s b (need_here k.settings (need_of h)) (λ out. slice_outcome c k b x d f.count (slice_end c b v d h out))))
+        (subst (λ out. Good terms lines s t (slice_outcome c k b x d f.count (slice_end c b v d h out))) (sym (outside_here s b (need_of h) k.settings lines_are))
         (subst (λ h. Good terms lines s t (slice_outcome c k b x d f.count (slice_end c b v d h (outside_at s b (need_of h))))) e
-        (slice_follows terms lines s t c b d k x here.0 v v1 here.1 ready code code_at ctx context_at quantum_is))
+        (slice_follows terms lines s t c b d k x here.0 v v1 here.1 ready code code_at ctx context_at quantum_is)))
 
     halfway_good : (v : Version) (d : ℕ) → slice_get f.control.states d ≡ Some disp.Ready → (oc : Option (List ℕ)) → slice_get (x0 d).parts.code d ≡ oc → (ox : Option Context) → slice_get (x0 d).parts.contexts d ≡ ox →
         Good terms lines s t (outcome s (finish_slice c k b x v d f.count (bind oc (λ code. bind ox (λ ctx. let a = ahead time code k.settings.quantum ctx (x0 d).parts.memory in Some (after_ahead time (x0 d) d a a.end))))))

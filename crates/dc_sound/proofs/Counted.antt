@@ -17,11 +17,10 @@ use Rattle.dc_base.specs.Firing.{latch_in}
 use Rattle.dc_base.specs.Lines.{Wire, wire_after, wire_after_raise, wire_after_intake, line_latch}
 use Rattle.dc_base.specs.Ports.{latch_at, how_latched}
 use Rattle.dc_base.specs.Report.{latches_of}
-use Rattle.dc_base.specs.Slices.{Halfway, stopped, stands, need_of, due_after}
+use Rattle.dc_base.specs.Slices.{Halfway, stopped, stands, due_after}
 use Rattle.dc_base.specs.States.{State, Core, Block, with_control, time_on}
 use Rattle.dc_base.specs.Words.{Each}
-use Rattle.dc_sound.proofs.EntryKinds.{IsSlice, IsSliceNone, IsIntake, IsRaise, Before, first_post, next_post, sliced_of, slice_changes, after_timers, Kind, is_slice, is_slice_none, is_idle, is_wake, is_intake, is_start, is_stop, is_replace, is_adopt, is_release, is_post, is_done, is_refused, is_route, is_awaited, is_raise}
-use Rattle.dc_block_sound.proofs.OutsideAt.{outside_at}
+use Rattle.dc_sound.proofs.EntryKinds.{IsSlice, IsSliceNone, IsIntake, IsRaise, Before, first_post, next_post, got_by, sliced_of, slice_changes, after_timers, Kind, is_slice, is_slice_none, is_idle, is_wake, is_intake, is_start, is_stop, is_replace, is_adopt, is_release, is_post, is_done, is_refused, is_route, is_awaited, is_raise}
 use Rattle.dc_sound.proofs.Budgets.{budget_grows, slice_spends}
 use Rattle.dc_block_sound.proofs.Elements.{set_case, SetCase, set_now, set_before}
 use Rattle.dc_sound.proofs.Latches.{held, held_by, NoMore, AnyContext, latch_laws, intake_given, intake_other, latches-set, sums_fall}
@@ -190,7 +189,7 @@ module _ (s : State) (chs : List Change) (e : Entry) (kind : Kind s chs e) (p : 
   sliced : (i : IsSlice s chs e) → WasHeld i.b (with_control (sliced_of s chs e i).control i.x)
   sliced i =
       let time = time_on i.k.clock i.offset in
-      let out = outside_at s i.b (need_of i.h) in
+      let out = got_by s chs e i in
       let was = i.x.control.parts.signals in
       let h = slice_has (NoMore was) (NoMore was) AnyContext time (latch_laws was time) i.k.settings.quantum i.c i.b i.x.control i.d i.h out (λ l. omega arith) (λ c q. tt) i.halfway_at in
       let same = ap (λ (x : ControlBlock). x.parts.signals) (end_is i.c i.b i.v i.d i.h out) ∙ due_signals i.v i.d (ended i.c i.b i.d i.h out) in

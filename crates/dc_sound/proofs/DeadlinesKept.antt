@@ -15,11 +15,10 @@ use Rattle.dc_base.specs.KeptByBlocks.{AllWords, AreWords}
 use Rattle.dc_base.specs.Lines.{line_latch}
 use Rattle.dc_base.specs.Placed.{IsPlaced, IsOn}
 use Rattle.dc_base.specs.Progress.{PostsFit}
-use Rattle.dc_base.specs.Slices.{need_of, due_after}
+use Rattle.dc_base.specs.Slices.{due_after}
 use Rattle.dc_base.specs.States.{State, Core, Block, on, time_on, time_of, clock_of}
 use Rattle.dc_base.specs.Words.{Each}
-use Rattle.dc_sound.proofs.EntryKinds.{HasTurn, IsSlice, IsSliceNone, sliced_of, after_timers, Kind}
-use Rattle.dc_block_sound.proofs.OutsideAt.{outside_at}
+use Rattle.dc_sound.proofs.EntryKinds.{HasTurn, IsSlice, IsSliceNone, got_by, sliced_of, after_timers, Kind}
 use Rattle.dc_sound.proofs.ControlRules.{ControlLaws, controls_kept}
 use Rattle.dc_block_sound.proofs.Elements.{same_some}
 use Rattle.dc_block_sound.proofs.PlainMoves.{Going, one_set, two_set, jumped, passed, stored, Acts, acts, index_word}
@@ -104,7 +103,7 @@ module _ (s : State) (chs : List Change) (e : Entry) (kind : Kind s chs e) (p : 
   sliced : (i : IsSlice s chs e) → Near i.b (sliced_of s chs e i).control
   sliced i =
       let time = time_on i.k.clock i.offset in
-      let out = outside_at s i.b (need_of i.h) in
+      let out = got_by s chs e i in
       let same = turn_time i.c i.k i.b i.x i.turn i.home i.offset i.v i.whereabouts_at in
       let near : Low (time + 2 ^ 32) i.x.control.parts.timers = subst (λ n. Low (n + 2 ^ 32) i.x.control.parts.timers) same (p i.b i.x i.turn.block_at) in
       let w = words i.b i.x i.turn.block_at in

@@ -13,11 +13,10 @@ use Rattle.dc_base.specs.Effects.{Context}
 use Rattle.dc_base.specs.Firing.{wake, latch_in}
 use Rattle.dc_base.specs.KeptByBlocks.{AllDispatchers}
 use Rattle.dc_base.specs.Lines.{line_latch}
-use Rattle.dc_base.specs.Slices.{need_of, due_after}
+use Rattle.dc_base.specs.Slices.{due_after}
 use Rattle.dc_base.specs.States.{State, time_on}
 use Rattle.dc_base.specs.Words.{Each, change}
-use Rattle.dc_sound.proofs.EntryKinds.{IsSlice, IsSliceNone, sliced_of, after_timers, Kind}
-use Rattle.dc_block_sound.proofs.OutsideAt.{outside_at}
+use Rattle.dc_sound.proofs.EntryKinds.{IsSlice, IsSliceNone, got_by, sliced_of, after_timers, Kind}
 use Rattle.dc_sound.proofs.Budgets.{budget_grows, slice_spends}
 use Rattle.dc_sound.proofs.ControlRules.{ControlLaws, controls_kept}
 use Rattle.dc_sound.proofs.TimerWalk.{TimerLaws, ended, end_is, slice_has, fired_has}
@@ -66,7 +65,7 @@ module _ (s : State) (chs : List Change) (e : Entry) (kind : Kind s chs e) (p : 
   sliced : (i : IsSlice s chs e) → Within i.b (sliced_of s chs e i).control
   sliced i =
       let time = time_on i.k.clock i.offset in
-      let out = outside_at s i.b (need_of i.h) in
+      let out = got_by s chs e i in
       let most = 2 ^ 62 + budget s * 2 ^ 16 in
       let y = ended i.c i.b i.d i.h out in
       let h = slice_has Any Any AnyContext time (no_laws time) i.k.settings.quantum i.c i.b i.x.control i.d i.h out tt (λ c q. tt) i.halfway_at in

@@ -38,6 +38,7 @@ use Rattle.dc_base.specs.Intakes.{intake_outcome, intake_pending, intake_line}
 use Rattle.dc_base.specs.KeptByBlocks.{is_ready}
 use Rattle.dc_base.specs.Lines.{Wire, wire_after_raise, wire_after_intake, line_latch}
 use Rattle.dc_base.specs.Orders.{acked, change_all, block_at_rest, block_under, adopted_time, adopt_outcome, release_outcome, carry_out, order_turn}
+use Rattle.dc_base.specs.NeedsHere.{need_here}
 use Rattle.dc_base.specs.Outcomes.{by_script, if_on, share_blocks, share_without, has, if_here}
 use Rattle.dc_base.specs.Policies.{pick}
 use Rattle.dc_base.specs.Ports.{latch_at, how_latched}
@@ -79,11 +80,15 @@ pub record IsSlice (s : State) (chs : List Change) (e : Entry) : Type 0 where
   pub h : Halfway
   pub halfway_at : halfway k.settings.quantum (time_on k.clock offset) (without_ready d (after_timers k.clock offset x.control)) d ≡ Some h
   pub picked : pick v (after_timers k.clock offset x.control).dues (after_timers k.clock offset x.control).ready ≡ Some d
-  pub outcome_is : did chs e ≡ slice_outcome c k b x d (fire_all (time_on k.clock offset) x.control).count (slice_end c b v d h (outside_at s b (need_of h)))
+  pub outcome_is : did chs e ≡ slice_outcome c k b x d (fire_all (time_on k.clock offset) x.control).count (slice_end c b v d h (outside_at s b (need_here k.settings (need_of h))))
+
+-- what its call got
+abbrev pub got_by : (s : State) (chs : List Change) (e : Entry) → IsSlice s chs e → Outside
+got_by s chs e i = outside_at s i.b (need_here i.k.settings (need_of i.h))
 
 -- what the slice did
 abbrev pub sliced_of : (s : State) (chs : List Change) (e : Entry) → IsSlice s chs e → Sliced
-sliced_of s chs e i = slice_end i.c i.b i.v i.d i.h (outside_at s i.b (need_of i.h))
+sliced_of s chs e i = slice_end i.c i.b i.v i.d i.h (got_by s chs e i)
 
 -- the changes of a slice
 pub slice_changes : (s : State) (chs : List Change) (e : Entry) (i : IsSlice s chs e) →
@@ -331,7 +336,7 @@ module _ (s : State) (chs : List Change) (e : Entry) where
         h = h;
         halfway_at = q;
         picked = p;
-        outcome_is = sym (outside_comes b (need_of h) (λ out. ends (slice_outcome c k b x d (fire_all (time_on k.clock offset) x.control).count (slice_end c b v d h out))) g);
+        outcome_is = sym (outside_comes b (need_here k.settings (need_of h)) (λ out. ends (slice_outcome c k b x d (fire_all (time_on k.clock offset) x.control).count (slice_end c b v d h out))) g);
       })
 
       picked_kind : (o : Option ℕ) → pick v (after_timers k.clock offset x.control).dues (after_timers k.clock offset x.control).ready ≡ o →

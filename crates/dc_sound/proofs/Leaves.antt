@@ -17,7 +17,7 @@ use Rattle.dc_base.specs.Wakes.{ready_again}
 use Rattle.dc_base.specs.Boot as boot
 use Rattle.dc_sound.proofs.EntryKinds.{IsSlice, IsSliceNone, IsIdle, IsWake, IsIntake, IsStart, IsStop, IsReplace, IsAdopt, IsRelease, IsPost, IsDone, IsRefused, IsRoute, IsAwaited, IsRaise, Before, first_post, next_post, slice_changes, sliced_of, after_timers, Kind, is_slice, is_slice_none, is_idle, is_wake, is_intake, is_start, is_stop, is_replace, is_adopt, is_release, is_post, is_done, is_refused, is_route, is_awaited, is_raise}
 use Rattle.dc_sound.proofs.Rules.{Rule, Obeys, Fine, fine_append, fine_all}
-use Rattle.dc_sound.proofs.SliceFacts.{HalfLaws, fine_slice}
+use Rattle.dc_sound.proofs.SliceFacts.{HalfLaws, fine_here}
 
 module _ (R : Rule) (s : State) (chs : List Change) (e : Entry) where
   pub record Leaves : Type 0 where
@@ -47,7 +47,7 @@ module _ (R : Rule) (s : State) (chs : List Change) (e : Entry) where
     fine_before command before (next_post last p z g m q) = subst (Fine R) (sym q) (l.emptied p.0, tt)
 
     pub fine_kind : Kind s chs e → Fine R chs
-    fine_kind (is_slice i) = let h = l.slice i in subst (Fine R) (sym (slice_changes s chs e i)) (h.0, (h.1, fine_slice R s obeys i.c i.b i.v i.d i.h h.2))
+    fine_kind (is_slice i) = let h = l.slice i in subst (Fine R) (sym (slice_changes s chs e i)) (h.0, (h.1, fine_here R s obeys i.k.settings i.c i.b i.v i.d i.h h.2))
     fine_kind (is_slice_none i) = let h = l.slice_none i in subst (Fine R) (sym i.changes_are) (h.0, (h.1, tt))
     fine_kind (is_idle i) = subst (Fine R) (sym i.changes_are) (l.idle i, tt)
     fine_kind (is_wake i) = let h = l.wake i in subst (Fine R) (sym i.changes_are) (h.0, (h.1, tt))

@@ -1,4 +1,5 @@
 -- A slice keeps the capabilities of each line in one block, also where it gives the line or claims it; and with it each entry.
+use Rattle.dc_sound.proofs.SliceFacts.{fine_without}
 use Rattle.std.proofs.Common.{◌≡◌, ◌⊎◌, ℕ, ◌+◌, ◌≤◌, List, [], ◌∷◌, Bool, true, false, Option, Some, None, refl, sym, ap, ◌∙◌, subst, inl, inr}
 use Rattle.std.specs.Prelude.{slice_get, IsSome}
 use Rattle.dc_base.specs.declared.calls.Need.TheVariants as needs
@@ -18,14 +19,14 @@ use Rattle.dc_base.specs.Lines.{Wire, rights_over}
 use Rattle.dc_base.specs.Orders.{block_at_rest, block_under}
 use Rattle.dc_base.specs.Parts.{Parts}
 use Rattle.dc_base.specs.Serving.{need, Outside, line_outside, serve, serve_claim}
-use Rattle.dc_base.specs.Slices.{Halfway, stopped, stands, after_served, slice_end, due_after}
+use Rattle.dc_base.specs.Slices.{Halfway, stopped, stands, after_served, slice_end, due_after, Sliced, need_of}
 use Rattle.dc_base.specs.States.{State, Core, Block, with_control, time_on}
 use Rattle.dc_base.specs.Steps.{as_line, outside_change, core_after_slice}
 use Rattle.dc_block_sound.proofs.CapForms.{keeps_caps, Limited}
 use Rattle.dc_block_sound.proofs.ControlSteps.{Steps, kept_along}
 use Rattle.dc_block_sound.proofs.Elements.{same_is, same_some}
 use Rattle.dc_sound.proofs.EntryKinds.{Kind, Before, first_post, next_post, slice_changes, sliced_of, is_slice, is_slice_none, is_idle, is_wake, is_intake, is_start, is_stop, is_replace, is_adopt, is_release, is_post, is_done, is_refused, is_route, is_awaited, is_raise}
-use Rattle.dc_block_sound.proofs.OutsideAt.{outside_at}
+use Rattle.dc_block_sound.proofs.OutsideAt.{outside_at, here_or_none}
 use Rattle.dc_block_sound.proofs.Forms.{keeps_shape}
 use Rattle.dc_block_sound.proofs.LineCaps.{LinesIn, lines_of, are_lines, lines_along, line_gone, none_of_line}
 use Rattle.dc_sound.proofs.LinesKept.{Had, lines_rule, old_block, old_line, plain_kept, along, along_block, raised, taken_in, IsPlain, ended, changes_of, slice_plain, given_kept, claimed_kept}
@@ -33,7 +34,7 @@ use Rattle.dc_sound.proofs.Outsides.{no_claim}
 use Rattle.dc_sound.proofs.Rules.{Fine, fine_append, fine_all}
 use Rattle.dc_block_sound.proofs.Seats.{EachCap, cap_holds}
 use Rattle.dc_block_sound.proofs.Walks.{HalfFits, HalfClaims, CallClaims, fire_steps, again_steps, latch_steps}
-use Rattle.dc_sound.proofs.SliceWalks.{slice_steps, slice_half}
+use Rattle.dc_sound.proofs.SliceWalks.{slice_steps, slice_half, slice_without}
 
 -- calls that give no line and claim none
 
@@ -185,9 +186,25 @@ module _ (s : State) (chs : List Change) (e : Entry) (p : KeepsLines s) (shapes 
   fine_before command before (next_post last o z g m q) = subst (Fine (lines_rule s p)) (sym q) (tt, tt)
 
   pub lines_kept : Kind s chs e → KeepsLines (apply s chs)
-  lines_kept (is_slice i) =
-      let all = slice_lines s p shapes caps i.c i.b i.d i.v (core_after_slice i.k i.b (i.k.clock + (sliced_of s chs e i).advance)) i.x i.turn.block_at i.h (slice_half s chs e i no_claim) (slice_steps s chs e i) in
-      subst (λ (chs : List Change). KeepsLines (apply s chs)) (sym (slice_changes s chs e i)) all
+  lines_kept (is_slice i) = elim (here_or_none i.k.settings s i.b (need_of i.h)) [
+    | inl same ↦
+        let st = subst (λ out. Steps s i.d (HalfClaims s i.h) i.x.control (slice_end i.c i.b i.v i.d i.h out).control) same (slice_steps s chs e i) in
+        let core = core_after_slice i.k i.b (i.k.clock + (sliced_of s chs e i).advance) in
+        let all = slice_lines s p shapes caps i.c i.b i.d i.v core i.x i.turn.block_at i.h (slice_half s chs e i no_claim) st in
+        subst (λ (chs : List Change). KeepsLines (apply s chs)) (sym (slice_changes s chs e i))
+        (subst (λ out. KeepsLines (apply s (changes_got core i.b i.x (slice_end i.c i.b i.v i.d i.h out)))) (sym same) all)
+    | inr none ↦
+        plain _ (slice_changes s chs e i) (
+          tt,
+          (
+            along_block s p i.b i.d no_claim (λ l c. c) i.x i.turn.block_at _ (slice_without s chs e i no_claim none),
+            subst (λ out. Fine (lines_rule s p) (outside_change i.b (slice_end i.c i.b i.v i.d i.h out).need (slice_end i.c i.b i.v i.d i.h out).outside)) (sym none) (fine_without (lines_rule s p) i.c i.b i.v i.d i.h),
+          ),
+        )
+  ]
+    where
+      changes_got : Core → ℕ → Block → Sliced → List Change
+      changes_got core b x sl = core_becomes i.c core ∷ block_becomes b (with_control sl.control x) ∷ outside_change b sl.need sl.outside
   lines_kept (is_slice_none i) = plain _ i.changes_are (tt, (along_block s p i.b 0 no_claim (λ l c. c) i.x i.turn.block_at _ (fire_steps s 0 no_claim (time_on i.k.clock i.offset) i.x.control), tt))
   lines_kept (is_idle i) = plain _ i.changes_are (tt, tt)
   lines_kept (is_wake i) = plain _ i.changes_are (tt, (along_block s p i.b i.d no_claim (λ l c. c) i.x i.turn.block_at _ (again_steps s i.d no_claim i.x.control), tt))

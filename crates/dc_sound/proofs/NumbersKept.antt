@@ -10,10 +10,9 @@ use Rattle.dc_base.specs.ControlBlocks.{ControlBlock}
 use Rattle.dc_base.specs.Effects.{Context}
 use Rattle.dc_base.specs.Firing.{wake, latch_in}
 use Rattle.dc_base.specs.Lines.{line_latch}
-use Rattle.dc_base.specs.Slices.{need_of, due_after}
+use Rattle.dc_base.specs.Slices.{due_after}
 use Rattle.dc_base.specs.States.{State, time_on}
-use Rattle.dc_sound.proofs.EntryKinds.{IsSlice, IsSliceNone, sliced_of, after_timers, Kind}
-use Rattle.dc_block_sound.proofs.OutsideAt.{outside_at}
+use Rattle.dc_sound.proofs.EntryKinds.{IsSlice, IsSliceNone, got_by, sliced_of, after_timers, Kind}
 use Rattle.dc_sound.proofs.Budgets.{budget_grows, slice_spends}
 use Rattle.dc_sound.proofs.ControlRules.{ControlLaws, controls_kept}
 use Rattle.dc_sound.proofs.TimerWalk.{TimerLaws, ended, end_is, slice_has, fired_has}
@@ -50,7 +49,7 @@ module _ (s : State) (chs : List Change) (e : Entry) (kind : Kind s chs e) (p : 
   sliced : (i : IsSlice s chs e) → Within i.b (sliced_of s chs e i).control
   sliced i =
       let time = time_on i.k.clock i.offset in
-      let out = outside_at s i.b (need_of i.h) in
+      let out = got_by s chs e i in
       let most = 2 ^ 31 + budget s in
       let h = slice_has (AtMost most) (AtMost (most + 1)) Any time (number_laws most time) i.k.settings.quantum i.c i.b i.x.control i.d i.h out (p i.b i.x i.turn.block_at) (λ c q. tt) i.halfway_at in
       let same = ap (λ (x : ControlBlock). x.parts.next_timer) (end_is i.c i.b i.v i.d i.h out) ∙ due_number i.v i.d (ended i.c i.b i.d i.h out) in

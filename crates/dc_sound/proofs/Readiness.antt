@@ -7,11 +7,10 @@ use Rattle.dc_base.specs.ControlBlocks.{ControlBlock}
 use Rattle.dc_base.specs.Firing.{latch_in}
 use Rattle.dc_base.specs.KeptByBlocks.{AllReady, HasReady}
 use Rattle.dc_base.specs.Lines.{line_latch}
-use Rattle.dc_base.specs.Slices.{need_of, without_ready}
+use Rattle.dc_base.specs.Slices.{without_ready}
 use Rattle.dc_base.specs.States.{State, time_on}
-use Rattle.dc_block_sound.proofs.OutsideAt.{outside_at}
 use Rattle.dc_block_sound.proofs.Ready.{latch_owes, fire_owes, ready_owes, owes_ready, picked_in, without_owes, half_ready, end_ready, again_ready}
-use Rattle.dc_sound.proofs.EntryKinds.{after_timers, sliced_of, Kind, IsSlice}
+use Rattle.dc_sound.proofs.EntryKinds.{got_by, after_timers, sliced_of, Kind, IsSlice}
 use Rattle.dc_sound.proofs.ControlRules.{ControlLaws, controls_kept}
 
 module _ (s : State) (chs : List Change) (e : Entry) where
@@ -22,7 +21,7 @@ module _ (s : State) (chs : List Change) (e : Entry) where
   sliced i h =
       let fired = fired_ready i.k.clock i.offset i.x.control h in
       let x = after_timers i.k.clock i.offset i.x.control in
-      end_ready i.c i.b i.v i.d i.h (outside_at s i.b (need_of i.h)) (half_ready i.k.settings.quantum (time_on i.k.clock i.offset) (without_ready i.d x) i.d i.h (without_owes x i.d fired (picked_in i.v x.dues x.ready i.d i.picked)) i.halfway_at)
+      end_ready i.c i.b i.v i.d i.h (got_by s chs e i) (half_ready i.k.settings.quantum (time_on i.k.clock i.offset) (without_ready i.d x) i.d i.h (without_owes x i.d fired (picked_in i.v x.dues x.ready i.d i.picked)) i.halfway_at)
 
   laws : ControlLaws (λ b x. HasReady x) s chs e
   laws = record {

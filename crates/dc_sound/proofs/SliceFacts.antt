@@ -1,5 +1,6 @@
 -- What a slice leaves as it was, and what becomes of the object that its call needed.
-use Rattle.std.proofs.Common.{◌≡◌, ℕ, zero, suc, List, [], ◌∷◌, ◌++◌, Bool, true, false, Option, Some, None, refl, sym, ap, ◌∙◌}
+use Rattle.dc_base.specs.NeedsHere.{need_here}
+use Rattle.std.proofs.Common.{◌≡◌, ℕ, zero, suc, List, [], ◌∷◌, ◌++◌, Bool, true, false, Option, Some, None, refl, sym, ap, ◌∙◌, inl, inr, subst}
 use Rattle.std.specs.Prelude.{slice_get, if◌then◌else◌, nat_lt, length, ⊤}
 use Rattle.dc_base.specs.declared.calls.Need.{Need}
 use Rattle.dc_base.specs.declared.calls.Need.TheVariants as needs
@@ -19,13 +20,13 @@ use Rattle.dc_base.specs.Firing.{wake, wake_if, latch_in, after_firing, fire_if,
 use Rattle.dc_base.specs.Kernel.{Call, faults, waits, makes, takes, prints, sends, receives, binds, gives, claims}
 use Rattle.dc_base.specs.Lines.{Wire, rights_over}
 use Rattle.dc_base.specs.Parts.{Parts}
-use Rattle.dc_base.specs.Serving.{need, Outside, console_outside, channel_outside, line_outside, Served, faulted, held_up, served, serve, serve_send, serve_receive, serve_claim}
+use Rattle.dc_base.specs.Serving.{need, Outside, console_outside, channel_outside, line_outside, Served, faulted, held_up, served, serve, serve_send, serve_receive, serve_claim, nothing_outside}
 use Rattle.dc_base.specs.Slices.{Halfway, stopped, stands, need_of, after_served, after_ahead, halfway, due_after, slice_end, without_ready}
-use Rattle.dc_base.specs.States.{State}
+use Rattle.dc_base.specs.States.{State, Settings}
 use Rattle.dc_base.specs.Steps.{as_console, as_channel, as_line, outside_change}
 use Rattle.dc_base.specs.Timers.{due_timer}
 use Rattle.dc_base.specs.Words.{bind}
-use Rattle.dc_block_sound.proofs.OutsideAt.{outside_at}
+use Rattle.dc_block_sound.proofs.OutsideAt.{outside_at, here_or_none}
 use Rattle.dc_sound.proofs.Rules.{Rule, Obeys, Fine}
 
 -- a reading of a control block that firing, waking and running leave as it was
@@ -191,6 +192,39 @@ pub fine_slice : (R : Rule) (s : State) → Obeys R s → (c b : ℕ) (v : Versi
 unfolding slice_end outside_change
 fine_slice R s obeys c b v d (stopped x ran e) laws = tt
 fine_slice R s obeys c b v d (stands x ran o call) laws = left_by R s obeys c b call laws x d ran o call refl
+
+-- nothing changes where the call got nothing
+
+module _ (R : Rule) (c b : ℕ) (x : ControlBlock) (d ran : ℕ) (o : Op) where
+  abbrev LeftAfter : Need → Served → Type 0
+  LeftAfter n a = Fine R (outside_change b (after_served x d ran o n nothing_outside a).need (after_served x d ran o n nothing_outside a).outside)
+
+  none_left : (k : Call) → LeftAfter (need k) (serve c b k nothing_outside)
+  unfolding need outside_change serve
+  none_left (faults y) = tt
+  none_left (waits w) = tt
+  none_left (makes w p) = tt
+  none_left (takes l p) = tt
+  none_left (prints w p) = tt
+  none_left (sends y m p) = tt
+  none_left (receives y address p) = tt
+  none_left (binds l signal p) = tt
+  none_left (gives l y rights p) = tt
+  none_left (claims l y slot p) = tt
+
+pub fine_without : (R : Rule) (c b : ℕ) (v : Version) (d : ℕ) (h : Halfway) → Fine R (outside_change b (slice_end c b v d h nothing_outside).need (slice_end c b v d h nothing_outside).outside)
+unfolding slice_end outside_change
+fine_without R c b v d (stopped x ran e) = tt
+fine_without R c b v d (stands x ran o call) = none_left R c b x d ran o call
+
+-- the object that it needed, where that exists
+pub fine_here : (R : Rule) (s : State) → Obeys R s → (t : Settings) (c b : ℕ) (v : Version) (d : ℕ) (h : Halfway) → HalfLaws R s c b h →
+    let sl = slice_end c b v d h (outside_at s b (need_here t (need_of h))) in
+    Fine R (outside_change b sl.need sl.outside)
+fine_here R s obeys t c b v d h laws = elim (here_or_none t s b (need_of h)) [
+  | inl same ↦ subst (λ out. Fine R (outside_change b (slice_end c b v d h out).need (slice_end c b v d h out).outside)) (sym same) (fine_slice R s obeys c b v d h laws)
+  | inr none ↦ subst (λ out. Fine R (outside_change b (slice_end c b v d h out).need (slice_end c b v d h out).outside)) (sym none) (fine_without R c b v d h)
+]
 
 -- a rule that asks nothing of channels, lines and consoles
 pub no_outside : (R : Rule) (s : State) (c b : ℕ) → ((b : ℕ) (ws : List ℕ) → R.console b ws) → ((x : ℕ) (r : Ring) → R.channel x r) → ((l : ℕ) (w : Wire) → R.line l w) → (h : Halfway) → HalfLaws R s c b h

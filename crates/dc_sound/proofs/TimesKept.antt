@@ -15,14 +15,12 @@ use Rattle.dc_base.specs.Orders.{change_all, under, block_under, block_at_rest, 
 use Rattle.dc_base.specs.Outcomes.{share_blocks, share_without}
 use Rattle.dc_base.specs.Placed.{IsOn, IsPlaced}
 use Rattle.dc_base.specs.Progress.{PostsFit, IsRest, IsAtRest}
-use Rattle.dc_base.specs.Slices.{need_of}
 use Rattle.dc_base.specs.States.{State, Core, Block, Whereabouts, rest, on, time_on, time_at, time_of, clock_of, place_on}
 use Rattle.dc_base.specs.Steps.{due_clock, core_after_slice, with_clock}
 use Rattle.dc_base.specs.Timers.{is_due}
 use Rattle.dc_base.specs.Turns.{looked_at}
 use Rattle.dc_base.specs.Words.{Each, above_zero}
-use Rattle.dc_sound.proofs.EntryKinds.{sliced_of, IsSlice, IsSliceNone, IsIdle, IsWake, IsIntake, IsStart, IsStop, IsReplace, IsAdopt, IsRelease, slice_changes, Kind, is_slice, is_slice_none, is_idle, is_wake, is_intake, is_start, is_stop, is_replace, is_adopt, is_release, is_post, is_done, is_refused, is_route, is_awaited, is_raise}
-use Rattle.dc_block_sound.proofs.OutsideAt.{outside_at}
+use Rattle.dc_sound.proofs.EntryKinds.{got_by, sliced_of, IsSlice, IsSliceNone, IsIdle, IsWake, IsIntake, IsStart, IsStop, IsReplace, IsAdopt, IsRelease, slice_changes, Kind, is_slice, is_slice_none, is_idle, is_wake, is_intake, is_start, is_stop, is_replace, is_adopt, is_release, is_post, is_done, is_refused, is_route, is_awaited, is_raise}
 use Rattle.dc_sound.proofs.Rules.{Fine}
 use Rattle.dc_block_sound.proofs.Elements.{same_some, set_here, SetCase, set_now, set_before, set_case, AllCase, was_listed, not_listed, all_cores, block_case}
 use Rattle.dc_sound.proofs.Placed.{places, frame_obeyed, by_slice, by_slice_none, by_idle, by_wake, by_intake, by_post, by_done, by_refused, by_route, by_awaited, by_raise}
@@ -69,7 +67,7 @@ module _ (s : State) (chs : List Change) (e : Entry) (p : IsClocked s) (deadline
       let same = settled.same i.c i.k i.turn.core_at in
       let most : i.k.settings.quantum ≤ 64 = subst (λ t. t.quantum ≤ 64) (sym same) settled.limits.quantum.1 in
       let ran = half_ran _ _ _ _ i.h i.halfway_at in
-      let far = end_advance i.c i.b i.v i.d i.h (outside_at s i.b (need_of i.h)) in
+      let far = end_advance i.c i.b i.v i.d i.h (got_by s chs e i) in
       subst (λ cs. Ticks s (apply s cs) 1) (sym (slice_changes s chs e i))
       (tick i.c i.k (core_after_slice i.k i.b (i.k.clock + sl.advance)) i.turn.core_at (outside_cores i.b sl.need sl.outside _) refl (omega arith) (omega (arith, most, ran, far)))
 

@@ -1,5 +1,5 @@
 -- A turn changes only what it looks at.
-use Rattle.std.proofs.Common.{◌≡◌, ◌⊎◌, ℕ, zero, suc, List, [], ◌∷◌, ◌++◌, Bool, true, false, Option, Some, None, refl, sym, ap, subst, map, inl, inr}
+use Rattle.std.proofs.Common.{◌≡◌, ◌⊎◌, ℕ, zero, suc, List, [], ◌∷◌, ◌++◌, Bool, true, false, Option, Some, None, refl, sym, ap, ◌∙◌, subst, map, inl, inr}
 use Rattle.std.specs.Prelude.{◌+◌, slice_get, if◌then◌else◌, find, ⊤, nat_lt, nat_le, ◌==◌, length}
 use Rattle.std.specs.Option.{option_map_or}
 use Rattle.dc_base.specs.declared.dispatchers.DispState.{DispState}
@@ -28,13 +28,15 @@ use Rattle.dc_base.specs.Boot.{refusal}
 use Rattle.dc_base.specs.Boot as boot
 use Rattle.dc_base.specs.Script.{next_raise}
 use Rattle.dc_base.specs.Policies.{pick}
-use Rattle.dc_base.specs.States.{State, Core, Block, Mailbox, empty, order, ack, Script, Whereabouts, rest, on, time_on}
+use Rattle.dc_base.specs.States.{State, Settings, Core, Block, Mailbox, empty, order, ack, Script, Whereabouts, rest, on, time_on}
 use Rattle.dc_base.specs.Firing.{Fired, fire_all}
 use Rattle.dc_base.specs.declared.calls.Need.{Need}
 use Rattle.dc_base.specs.declared.calls.Need.TheVariants as needs
 use Rattle.dc_base.specs.ControlBlocks.{ControlBlock}
+use Rattle.dc_base.specs.Kernel.{Call, faults, waits, makes, takes, prints, sends, receives, binds, gives, claims}
 use Rattle.dc_base.specs.Serving.{need, serve, faulted, held_up, served, Served, Outside, nothing_outside, console_outside, channel_outside, line_outside}
-use Rattle.dc_base.specs.Slices.{Halfway, stopped, stands, halfway, need_of, slice_end, after_served, without_ready}
+use Rattle.dc_base.specs.NeedsHere.{need_here}
+use Rattle.dc_base.specs.Slices.{Halfway, stopped, stands, halfway, need_of, slice_end, after_served, with_due, without_ready}
 use Rattle.dc_base.specs.Changes.{Name, a_core, a_block, a_channel, a_line, a_mailbox, a_console, the_script, Change, block_becomes, mailbox_becomes, name_of}
 use Rattle.dc_base.specs.Turns.{Outcome, did, not_enabled, spent, Looked, Turn, ends, look_core, look_blocks, look_block, look_channel, look_line, look_mailbox, look_console, look_script, looked_at, outcome, looks}
 use Rattle.dc_base.specs.Steps.{as_console, as_channel, as_line, look_outside, outside_change, finish_slice, slice_picked, slice_from, slice_turn, next_due, idle_outcome, step_on, step_turn, is_runnable}
@@ -136,12 +138,12 @@ needed_more b needs.Console ns n l = inr l
 needed_more b (needs.Channel x) ns n l = inr l
 needed_more b (needs.Line x) ns n l = inr l
 
-outside_covers : (ns : List Name) (b : ℕ) (w : Need) (next : Outside → Turn) → ((out : Outside) → Covers (needed b w ns) (next out)) → Covers ns (look_outside b w next)
+outside_covers : (ns : List Name) (b : ℕ) (w : Need) (next : Outside → Turn) → ((out : Outside) → (w ≡ needs.Nothing → out ≡ nothing_outside) → Covers (needed b w ns) (next out)) → Covers ns (look_outside b w next)
 unfolding look_outside
-outside_covers ns b needs.Nothing next h = h nothing_outside
-outside_covers ns b needs.Console next h = λ o. h (as_console o)
-outside_covers ns b (needs.Channel x) next h = λ o. h (as_channel o)
-outside_covers ns b (needs.Line l) next h = λ o. h (as_line o)
+outside_covers ns b needs.Nothing next h = h nothing_outside (λ e. refl)
+outside_covers ns b needs.Console next h = λ o. h (as_console o) (λ e. absurd cc)
+outside_covers ns b (needs.Channel x) next h = λ o. h (as_channel o) (λ e. absurd cc)
+outside_covers ns b (needs.Line l) next h = λ o. h (as_line o) (λ e. absurd cc)
 
 outside_listed : (b : ℕ) (w : Need) (out : Outside) (ns : List Name) → AllListed (outside_change b w out) (needed b w ns)
 unfolding outside_change
@@ -160,18 +162,59 @@ unfolding slice_end
 end_need c n v d (stopped x ran e) out = refl
 end_need c n v d (stands x ran o call) out = answered_need x d ran o (need call) out (serve c n call out)
 
+-- a line that does not exist is not needed, and nothing of it changes
+
+here_or_nothing : (t : Settings) (w : Need) → (need_here t w ≡ w) ⊎ (need_here t w ≡ needs.Nothing)
+here_or_nothing t needs.Nothing = inl refl
+here_or_nothing t needs.Console = inl refl
+here_or_nothing t (needs.Channel x) = inl refl
+here_or_nothing t (needs.Line l) = by_test (nat_lt l.0 t.lines)
+  where
+    by_test : (test : Bool) → ((if test then needs.Line l else needs.Nothing) ≡ needs.Line l) ⊎ ((if test then needs.Line l else needs.Nothing) ≡ needs.Nothing)
+    by_test true = inl refl
+    by_test false = inr refl
+
+nothing_answered : (x : ControlBlock) (v : Version) (d ran c n : ℕ) (o : Op) (call : Call) → (with_due v d (after_served x d ran o (need call) nothing_outside (serve c n call nothing_outside))).outside ≡ nothing_outside
+unfolding serve
+nothing_answered x v d ran c n o (faults y) = refl
+nothing_answered x v d ran c n o (waits w) = refl
+nothing_answered x v d ran c n o (makes w p) = refl
+nothing_answered x v d ran c n o (takes l p) = refl
+nothing_answered x v d ran c n o (prints w p) = refl
+nothing_answered x v d ran c n o (sends y m p) = refl
+nothing_answered x v d ran c n o (receives y a p) = refl
+nothing_answered x v d ran c n o (binds l i p) = refl
+nothing_answered x v d ran c n o (gives l y rights p) = refl
+nothing_answered x v d ran c n o (claims l y slot p) = refl
+
+nothing_left : (c n : ℕ) (v : Version) (d : ℕ) (h : Halfway) → (slice_end c n v d h nothing_outside).outside ≡ nothing_outside
+unfolding slice_end
+nothing_left c n v d (stopped x ran e) = refl
+nothing_left c n v d (stands x ran o call) = nothing_answered x v d ran c n o call
+
+no_change : (b : ℕ) (w : Need) → outside_change b w nothing_outside ≡ []
+unfolding outside_change
+no_change b needs.Nothing = refl
+no_change b needs.Console = refl
+no_change b (needs.Channel x) = refl
+no_change b (needs.Line l) = refl
+
+module _ (t : Settings) (c b : ℕ) (v : Version) (d : ℕ) (h : Halfway) (ns : List Name) where
+  end_listed : (out : Outside) → (need_here t (need_of h) ≡ needs.Nothing → out ≡ nothing_outside) →
+      AllListed (outside_change b (slice_end c b v d h out).need (slice_end c b v d h out).outside) (needed b (need_here t (need_of h)) ns)
+  end_listed out none = subst (λ w. AllListed (outside_change b w (slice_end c b v d h out).outside) (needed b (need_here t (need_of h)) ns)) (sym (end_need c b v d h out)) (elim (here_or_nothing t (need_of h)) [
+    | inl same ↦ subst (λ w. AllListed (outside_change b (need_of h) (slice_end c b v d h out).outside) (needed b w ns)) (sym same) (outside_listed b (need_of h) (slice_end c b v d h out).outside ns)
+    | inr gone ↦
+        let left : (slice_end c b v d h out).outside ≡ nothing_outside = ap (λ o. (slice_end c b v d h o).outside) (none gone) ∙ nothing_left c b v d h in
+        subst (λ cs. AllListed cs (needed b (need_here t (need_of h)) ns)) (sym (ap (outside_change b (need_of h)) left ∙ no_change b (need_of h))) tt
+  ])
+
 module _ (c : ℕ) (k : Core) where
   slice_covers : (b : ℕ) (x : Block) (v : Version) (d count : ℕ) (ns : List Name) → Listed (a_core c) ns → Listed (a_block b) ns → (h : Option Halfway) → Covers ns (finish_slice c k b x v d count h)
   slice_covers b x v d count ns hc hb None = tt
   slice_covers b x v d count ns hc hb (Some h) =
-      outside_covers ns b (need_of h) _ (λ out. (
-        needed_more b (need_of h) ns _ hc,
-        (
-          needed_more b (need_of h) ns _ hb,
-          subst (λ w. AllListed (outside_change b (slice_end c b v d h out).need (slice_end c b v d h out).outside) (needed b w ns)) (end_need c b v d h out)
-              (outside_listed b (slice_end c b v d h out).need (slice_end c b v d h out).outside ns),
-        ),
-      ))
+      let w = need_here k.settings (need_of h) in
+      outside_covers ns b w _ (λ out none. (needed_more b w ns _ hc, (needed_more b w ns _ hb, end_listed k.settings c b v d h ns out none)))
 
   picked_covers : (b : ℕ) (x : Block) (time : ℕ) (v : Version) (f : Fired) (ns : List Name) → Listed (a_core c) ns → Listed (a_block b) ns → (o : Option ℕ) → Covers ns (slice_picked c k b x time v f o)
   picked_covers b x time v f ns hc hb None = (hc, (hb, tt))

@@ -9,6 +9,7 @@ use Rattle.dc_base.specs.declared.calls.Need.TheVariants as needs
 use Rattle.dc_base.specs.declared.kernels.Version.{Version}
 use Rattle.dc_base.specs.declared.entries.Entry.{Entry}
 use Rattle.dc_base.specs.declared.entries.What.TheVariants as what
+use Rattle.dc_base.specs.NeedsHere.{need_here}
 use Rattle.dc_base.specs.Policies.{pick}
 use Rattle.dc_base.specs.States.{State, Core, Block, Whereabouts, rest, on, time_at, time_on}
 use Rattle.dc_base.specs.Firing.{fire_all}
@@ -48,16 +49,16 @@ module _ (s : State) (chs : List Change) (e : Entry) where
     comes_to x d time = halfway k.settings.quantum time (without_ready d (fire_all time x.control).control) d
 
     needs_tabled : (b d : ℕ) (x : Block) (time : ℕ) (h : Halfway) → slice_get s.blocks b ≡ Some x → time_at k.clock x.whereabouts ≡ time → comes_to x d time ≡ Some h →
-        slice_needs k b d (slice_get s.blocks b) ≡ needed b (need_of h)
-    needs_tabled b d x time h hb ht hh = ap (slice_needs k b d) hb ∙ ap (λ t. half_needs b (comes_to x d t)) ht ∙ ap (half_needs b) hh
+        slice_needs k b d (slice_get s.blocks b) ≡ needed b (need_here k.settings (need_of h))
+    needs_tabled b d x time h hb ht hh = ap (slice_needs k b d) hb ∙ ap (λ t. half_needs k.settings b (comes_to x d t)) ht ∙ ap (half_needs k.settings b) hh
 
     finish_tabled : (b : ℕ) (x : Block) (v : Version) (d count time : ℕ) → slice_get s.blocks b ≡ Some x → time_at k.clock x.whereabouts ≡ time → (o : Option Halfway) → comes_to x d time ≡ o →
         IsTabled s chs e (with_share c k) (finish_slice c k b x v d count o)
     finish_tabled b x v d count time hb ht None hh = refused s chs e _
     finish_tabled b x v d count time hb ht (Some h) hh =
-        outside_tabled b (need_of h) (with_share c k) (λ out. ends (slice_outcome c k b x d count (slice_end c b v d h out)))
-        (λ out. made_by_core s chs e c k here (with_share c k ++ needed b (need_of h)) _ (what.Slice (record { 0 = b }) (record { 0 = d }) count _ _ _)
-        (subst (λ ns. IsPermutation (with_share c k ++ needed b (need_of h)) (with_share c k ++ ns)) (sym (needs_tabled b d x time h hb ht hh)) (IsPermutation-refl _)))
+        outside_tabled b (need_here k.settings (need_of h)) (with_share c k) (λ out. ends (slice_outcome c k b x d count (slice_end c b v d h out)))
+        (λ out. made_by_core s chs e c k here (with_share c k ++ needed b (need_here k.settings (need_of h))) _ (what.Slice (record { 0 = b }) (record { 0 = d }) count _ _ _)
+        (subst (λ ns. IsPermutation (with_share c k ++ needed b (need_here k.settings (need_of h))) (with_share c k ++ ns)) (sym (needs_tabled b d x time h hb ht hh)) (IsPermutation-refl _)))
 
     picked_tabled : (b : ℕ) (x : Block) (time : ℕ) (v : Version) → slice_get s.blocks b ≡ Some x → time_at k.clock x.whereabouts ≡ time → (o : Option ℕ) →
         IsTabled s chs e (with_share c k) (slice_picked c k b x time v (fire_all time x.control) o)
