@@ -1,6 +1,7 @@
 -- Openings: the states from which a run may begin, each with the one state of blocks that it stands for.
 use Rattle.std.specs.Prelude.{◌≡◌, ℕ, List, [], Bool, map, is_some}
 use Rattle.dc_base.specs.declared.entries.Entry.{Entry}
+use Rattle.dc_base.specs.declared.reports.ReportLine.{ReportLine}
 use Rattle.dc_base.specs.Words.{Each}
 use Rattle.dc_base.specs.Script.{next_command}
 use Rattle.dc_base.specs.Channels.{Ring}
@@ -13,6 +14,8 @@ use Rattle.dc_base.specs.Shown.{life_of}
 use Rattle.dc_base.specs.Runs.{Seen, run_from}
 use Rattle.dc_base.specs.Telling.{seen_of, terms_at}
 use Rattle.dc_base.specs.Sound.{IsSound}
+use Rattle.dc_base.specs.Origins.{Origin}
+use Rattle.dc_base.specs.Headline.{IsReportedRunOf}
 
 -- nothing was sent over the channel
 pub record IsUnsent (r : Ring) : Type 0 where
@@ -54,3 +57,10 @@ seen_opened s = seen_of s (blocks_opened s)
 -- whether the journal is a run from the opening
 abbrev pub run_of_opening : State → List Entry → Bool
 run_of_opening s journal = is_some (run_from (terms_at s) s.script.lines (seen_opened s) journal)
+
+abbrev pub opening_origin : State → Origin
+opening_origin s = record { terms = terms_at s; lines = s.script.lines; seen = seen_opened s; state = s }
+
+-- the promise from an opening
+abbrev pub IsReportedRunFrom : State → List Entry → List ReportLine → Type 0
+IsReportedRunFrom s journal report = IsReportedRunOf (opening_origin s) journal report

@@ -20,10 +20,10 @@ use Rattle.dc_refine.proofs.Members.{In, in_left, in_right, in_either}
 use Rattle.dc_refine.proofs.Distinct.{AreDistinct, distinct_both, same_length}
 
 -- the numbers of a line's latches in these signals
-abbrev of_latch : ℕ → Latch → Bool → List ℕ → List ℕ
+abbrev pub of_latch : ℕ → Latch → Bool → List ℕ → List ℕ
 of_latch l k is ns = if is then k.value ∷ ns else ns
 
-abbrev numbers_in : ℕ → List (Option Latch) → List ℕ
+abbrev pub numbers_in : ℕ → List (Option Latch) → List ℕ
 numbers_in l [] = []
 numbers_in l (None ∷ os) = numbers_in l os
 numbers_in l (Some k ∷ os) = of_latch l k (is_from l k.source) (numbers_in l os)

@@ -59,5 +59,9 @@ pub mod Reached
 pub mod ReportedBlocks
 pub mod CoreStarts
 pub mod Opened
+pub mod EntryActions
+pub mod OwnSchedules
 pub mod Refused
+pub mod RefusedRows
 pub mod RunReports
+pub mod StartOpens

@@ -13,7 +13,7 @@ use Rattle.dc_base.specs.CoreRuns.{Run, after_outcome, run_all, core_run_from}
 use Rattle.dc_base.specs.StandsFor.{StandsFor}
 use Rattle.dc_base.specs.StrikeOut.{Told, told_after}
 use Rattle.dc_base.specs.Holders.{held_from}
-use Rattle.dc_base.specs.Runs.{Terms, Seen, run_step, run_from}
+use Rattle.dc_base.specs.Runs.{Terms, Seen, run_step, run_from, boot_from}
 use Rattle.dc_base.specs.Sound.{IsSound}
 use Rattle.dc_base.specs.Telling.{IsOf, Agrees}
 use Rattle.dc_base.proofs.RunLaws.{run_from-append, run_step-comes}
@@ -70,7 +70,7 @@ module _ (stays : SoundnessStays) (terms : Terms) (lines : List ScriptLine) (sta
   run-reached sound stands agrees schedule = all_reached (record { state = start; polls = 0; journal = []; skipped = 0 }) schedule
       (record { seen = n; run = refl; sound = sound; stands = stands; agrees = agrees; same_script = record { settings = refl; lines = refl } })
 
--- what a run tells of holders
+-- what a run tells of holders and of the boot state
 module _ (terms : Terms) (lines : List ScriptLine) where
   held_by_step : (n : Seen) (e : Entry) (es : List Entry) (m : Seen) → ((k : Seen) → run_from terms lines k es ≡ Some m → m.told.holders ≡ held_from k.told.holders es) →
       (o : Option Seen) → run_step terms lines n e ≡ o → bind o (λ k. run_from terms lines k es) ≡ Some m → m.told.holders ≡ held_from n.told.holders (e ∷ es)
@@ -82,3 +82,12 @@ module _ (terms : Terms) (lines : List ScriptLine) where
   pub run_from-held : (n : Seen) (es : List Entry) (m : Seen) → run_from terms lines n es ≡ Some m → m.told.holders ≡ held_from n.told.holders es
   run_from-held n [] m g = let e : n ≡ m = cc in ap (λ (k : Seen). k.told.holders) (sym e)
   run_from-held n (e ∷ es) m g = held_by_step n e es m (λ k h. run_from-held k es m h) (run_step terms lines n e) refl g
+
+  boot_by_step : (n : Seen) (e : Entry) (es : List Entry) (m : Seen) → ((k : Seen) → run_from terms lines k es ≡ Some m → m.boot ≡ boot_from k.boot es) →
+      (o : Option Seen) → run_step terms lines n e ≡ o → bind o (λ k. run_from terms lines k es) ≡ Some m → m.boot ≡ boot_from n.boot (e ∷ es)
+  boot_by_step n e es m more None f g = cc
+  boot_by_step n e es m more (Some k) f g = more k g ∙ ap (λ r. boot_from r es) (run_step-comes terms lines n e k f).boot
+
+  pub run_from-boot : (n : Seen) (es : List Entry) (m : Seen) → run_from terms lines n es ≡ Some m → m.boot ≡ boot_from n.boot es
+  run_from-boot n [] m g = let e : n ≡ m = cc in ap (λ (k : Seen). k.boot) (sym e)
+  run_from-boot n (e ∷ es) m g = boot_by_step n e es m (λ k h. run_from-boot k es m h) (run_step terms lines n e) refl g

@@ -1,76 +1,47 @@
 -- A refused command moves the script's place on, and changes nothing else.
 use Rattle.std.proofs.Common.{◌≡◌, ℕ, zero, suc, ◌+◌, List, [], ◌∷◌, Bool, true, false, Option, Some, None, refl, sym, ap, ◌∙◌, subst, length}
-use Rattle.std.specs.Prelude.{slice_get, nat_lt, nat_le, find, map, ◌==◌, if◌then◌else◌}
-use Rattle.std.specs.Option.{option_map}
+use Rattle.std.specs.Prelude.{slice_get, nat_lt, nat_le, ◌==◌, if◌then◌else◌}
 use Rattle.dc_base.specs.declared.actions.Actor.{Actor}
 use Rattle.dc_base.specs.declared.actions.Actor.TheVariants as actor
 use Rattle.dc_base.specs.declared.actions.Action.{Action}
 use Rattle.dc_base.specs.declared.actions.Action.TheVariants as action
-use Rattle.dc_base.specs.declared.calls.Need.{Need}
-use Rattle.dc_base.specs.declared.calls.Need.TheVariants as needs
 use Rattle.dc_base.specs.declared.commands.Command.{Command}
 use Rattle.dc_base.specs.declared.commands.Order.{Order}
-use Rattle.dc_base.specs.declared.commands.Order.TheVariants as orders
 use Rattle.dc_base.specs.declared.commands.Refusal.{Refusal}
 use Rattle.dc_base.specs.declared.commands.ScriptLine.{ScriptLine}
 use Rattle.dc_base.specs.declared.commands.ScriptLine.TheVariants as line
-use Rattle.dc_base.specs.declared.dispatchers.DispState.{DispState}
-use Rattle.dc_base.specs.declared.dispatchers.DispState.TheVariants as disp
-use Rattle.dc_base.specs.declared.dispatchers.Wait.TheVariants as wait
 use Rattle.dc_base.specs.declared.entries.Entry.{Entry}
 use Rattle.dc_base.specs.declared.entries.Reason.TheVariants as reason
 use Rattle.dc_base.specs.declared.entries.What.{What}
 use Rattle.dc_base.specs.declared.entries.What.TheVariants as what
-use Rattle.dc_base.specs.declared.kernels.Version.{Version}
 use Rattle.dc_base.specs.declared.numbers.BlockNo.{BlockNo}
 use Rattle.dc_base.specs.declared.numbers.CoreNo.{CoreNo}
 use Rattle.dc_base.specs.declared.numbers.LineNo.{LineNo}
 use Rattle.dc_base.specs.Boot.{refusal}
 use Rattle.dc_base.specs.Boot as boot
-use Rattle.dc_base.specs.Channels.{Ring}
 use Rattle.dc_base.specs.Lines.{Wire}
 use Rattle.dc_base.specs.Script.{next_command, next_raise}
-use Rattle.dc_base.specs.States.{State, Core, Block, Mailbox, Script, Whereabouts, rest, on, empty, order, ack}
+use Rattle.dc_base.specs.States.{State, Core, Mailbox, Script, empty, order, ack}
 use Rattle.dc_base.specs.Changes.{Change, apply, mailbox_becomes, script_becomes}
-use Rattle.dc_base.specs.Turns.{Outcome, did, not_enabled, spent, Looked, Turn, ends, look_core, look_blocks, look_block, look_channel, look_line, look_mailbox, look_console, look_script, looked_at, outcome}
-use Rattle.dc_base.specs.Outcomes.{has, share_blocks, by_script, if_on, if_here}
-use Rattle.dc_base.specs.Serving.{Outside}
-use Rattle.dc_base.specs.Slices.{Halfway}
-use Rattle.dc_base.specs.Steps.{look_outside, slice_turn, slice_picked, slice_from, finish_slice, next_due, idle_outcome, is_runnable, step_on}
-use Rattle.dc_base.specs.Firing.{Fired}
-use Rattle.dc_base.specs.Wakes.{wake_sender, wake_receiver, wake_waiting, wake_in, after_wake}
-use Rattle.dc_base.specs.Intakes.{intake_outcome, intake_pending, intake_line}
-use Rattle.dc_base.specs.Orders.{adopt_outcome, release_outcome, carry_out, order_turn}
+use Rattle.dc_base.specs.Turns.{Outcome, did, not_enabled, spent, Turn, ends, outcome}
+use Rattle.dc_base.specs.Outcomes.{by_script}
 use Rattle.dc_base.specs.Commands.{at_next_command, post_or_done, begin, with_ack, go_on_from, boot_turn, route_line, await_outcome, command_turn, raise_above, after_raises}
 use Rattle.dc_base.specs.Raises.{raise_on, raise_line, raise_turn}
-use Rattle.dc_base.specs.Cores.{core_action, core_turn, turn_of, core_step}
-
--- what holds of every outcome of a turn
-abbrev Always : (Outcome → Type 0) → Turn → Type 0
-Always P (ends o) = P o
-Always P (look_core c f) = (x : Option Core) → Always P (f x)
-Always P (look_blocks bs f) = (ls : List Looked) → Always P (f ls)
-Always P (look_block b f) = (x : Option Block) → Always P (f x)
-Always P (look_channel x f) = (r : Option Ring) → Always P (f r)
-Always P (look_line l f) = (w : Option Wire) → Always P (f w)
-Always P (look_mailbox c f) = (m : Option Mailbox) → Always P (f m)
-Always P (look_console b f) = (ws : Option (List ℕ)) → Always P (f ws)
-Always P (look_script f) = (t : Script) → Always P (f t)
-
-at_last : (P : Outcome → Type 0) (s : State) (t : Turn) → Always P t → P (outcome s t)
-at_last P s (ends o) h = h
-at_last P s (look_core c f) h = at_last P s (f (slice_get s.cores c)) (h (slice_get s.cores c))
-at_last P s (look_blocks bs f) h = at_last P s (f (map (looked_at s.blocks) bs)) (h (map (looked_at s.blocks) bs))
-at_last P s (look_block b f) h = at_last P s (f (slice_get s.blocks b)) (h (slice_get s.blocks b))
-at_last P s (look_channel x f) h = at_last P s (f (slice_get s.channels x)) (h (slice_get s.channels x))
-at_last P s (look_line l f) h = at_last P s (f (slice_get s.lines l)) (h (slice_get s.lines l))
-at_last P s (look_mailbox c f) h = at_last P s (f (slice_get s.mailboxes c)) (h (slice_get s.mailboxes c))
-at_last P s (look_console b f) h = at_last P s (f (slice_get s.consoles b)) (h (slice_get s.consoles b))
-at_last P s (look_script f) h = at_last P s (f s.script) (h s.script)
+use Rattle.dc_base.specs.Cores.{core_turn, turn_of, core_step}
+use Rattle.dc_base.specs.Actions.{action_of}
+use Rattle.dc_refine.proofs.EntryActions.{Always, at_last, Mine, core_shows}
 
 abbrev is_refused : What → Bool
 is_refused (what.Refused q r) = true
 is_refused w = false
+
+abbrev is_script : Action → Bool
+is_script action.Script = true
+is_script a = false
+
+refused_by_script : (w : What) → is_refused w ≡ true → action_of w ≡ action.Script
+refused_by_script (what.Refused q r) h = refl
+refused_by_script w h = absurd cc
 
 -- no refusal
 abbrev Other : Outcome → Type 0
@@ -80,142 +51,6 @@ Other spent = Unit {0}
 
 abbrev AlwaysOther : Turn → Type 0
 AlwaysOther t = Always Other t
-
-on_by : (v : Option Version) (t : Turn) → AlwaysOther t → AlwaysOther (if_on v t)
-on_by None t h = tt
-on_by (Some v) t h = h
-
-here_by : (b : ℕ) (t : Turn) → AlwaysOther t → (f : Bool) → AlwaysOther (if f then t else ends (not_enabled (reason.NotHere (record { 0 = b }))))
-here_by b t h true = h
-here_by b t h false = tt
-
--- a step
-outside_by : (b : ℕ) (n : Need) (f : Outside → Outcome) → ((out : Outside) → Other (f out)) → AlwaysOther (look_outside b n (λ out. ends (f out)))
-unfolding look_outside
-outside_by b needs.Nothing f h = h _
-outside_by b needs.Console f h = λ o. h _
-outside_by b (needs.Channel x) f h = λ o. h _
-outside_by b (needs.Line l) f h = λ o. h _
-
-slice_by_half : (c : ℕ) (k : Core) (b : ℕ) (x : Block) (v : Version) (d count : ℕ) (h : Option Halfway) → AlwaysOther (finish_slice c k b x v d count h)
-slice_by_half c k b x v d count None = tt
-slice_by_half c k b x v d count (Some h) = outside_by b _ _ (λ out. refl)
-
-slice_by_pick : (c : ℕ) (k : Core) (b : ℕ) (x : Block) (time : ℕ) (v : Version) (f : Fired) (o : Option ℕ) → AlwaysOther (slice_picked c k b x time v f o)
-slice_by_pick c k b x time v f None = refl
-slice_by_pick c k b x time v f (Some d) = slice_by_half c k b x v d f.count _
-
-slice_by_place : (c : ℕ) (k : Core) (b : ℕ) (x : Block) (w : Whereabouts) → AlwaysOther (slice_from c k b x w)
-slice_by_place c k b x (rest kept) = tt
-slice_by_place c k b x (on d z v) = slice_by_pick c k b x _ v _ _
-
-slice_other : (c : ℕ) (k : Core) (b : ℕ) (o : Option Block) → AlwaysOther (slice_turn c k b o)
-unfolding slice_turn
-slice_other c k b None = tt
-slice_other c k b (Some x) = slice_by_place c k b x x.whereabouts
-
-idle_other : (c : ℕ) (k : Core) (o : Option ℕ) → Other (idle_outcome c k o)
-unfolding idle_outcome
-idle_other c k None = tt
-idle_other c k (Some clock) = refl
-
-step_on_other : (c : ℕ) (k : Core) (share : List Looked) (o : Option Looked) → AlwaysOther (step_on c k share o)
-step_on_other c k share None = idle_other c k (next_due share)
-step_on_other c k share (Some l) = slice_other c k l.number l.found
-
-step_other : (c : ℕ) (k : Core) (f : Bool) → AlwaysOther (if f then ends spent else if_on k.version (look_blocks (share_blocks k.share) (λ share. step_on c k share (find (is_runnable k.clock) share))))
-step_other c k true = tt
-step_other c k false = on_by k.version _ (λ ls. step_on_other c k ls (find (is_runnable k.clock) ls))
-
--- a wake
-woken_by : (c : ℕ) (k : Core) (b d : ℕ) (x : Block) (f : Bool) → Other (if f then not_enabled reason.StillWaits else after_wake c k b d x)
-woken_by c k b d x true = tt
-woken_by c k b d x false = refl
-
-woken_when : (c : ℕ) (k : Core) (b d : ℕ) (x : Block) (f : Bool) → Other (if f then after_wake c k b d x else not_enabled reason.StillWaits)
-woken_when c k b d x true = refl
-woken_when c k b d x false = tt
-
-sender_other : (c : ℕ) (k : Core) (b d : ℕ) (x : Block) (o : Option Ring) → Other (wake_sender c k b d x o)
-sender_other c k b d x None = tt
-sender_other c k b d x (Some r) = woken_by c k b d x _
-
-receiver_other : (c : ℕ) (k : Core) (b d : ℕ) (x : Block) (o : Option Ring) → Other (wake_receiver c k b d x o)
-receiver_other c k b d x None = tt
-receiver_other c k b d x (Some r) = woken_when c k b d x _
-
-waiting_other : (c : ℕ) (k : Core) (b d : ℕ) (x : Block) (o : Option DispState) → AlwaysOther (wake_waiting c k b d x o)
-waiting_other c k b d x None = tt
-waiting_other c k b d x (Some disp.Ready) = tt
-waiting_other c k b d x (Some disp.Halted) = tt
-waiting_other c k b d x (Some (disp.Trapped n)) = tt
-waiting_other c k b d x (Some (disp.Waits (wait.Send p))) = tt
-waiting_other c k b d x (Some (disp.Waits (wait.Recv p))) = tt
-waiting_other c k b d x (Some (disp.Waits (wait.Signal i))) = tt
-waiting_other c k b d x (Some (disp.Waits (wait.Csend y))) = λ r. sender_other c k b d x r
-waiting_other c k b d x (Some (disp.Waits (wait.Crecv y))) = λ r. receiver_other c k b d x r
-
-wake_in_other : (c : ℕ) (k : Core) (b d : ℕ) (o : Option Block) → AlwaysOther (wake_in c k b d o)
-wake_in_other c k b d None = tt
-wake_in_other c k b d (Some x) = waiting_other c k b d x (slice_get x.control.states d)
-
-wake_other : (c : ℕ) (k : Core) (b d : ℕ) (f : Bool) → AlwaysOther (if f then ends spent else if_on k.version (if_here k.share b (look_block b (wake_in c k b d))))
-wake_other c k b d true = tt
-wake_other c k b d false = on_by k.version _ (here_by b _ (λ o. wake_in_other c k b d o) (has k.share b))
-
--- an intake
-taken_other : (c l : ℕ) (w : Wire) (n b signal : ℕ) (o : Option Block) → Other (intake_outcome c l w n b signal o)
-taken_other c l w n b signal None = tt
-taken_other c l w n b signal (Some x) = refl
-
-route_by : (c : ℕ) (k : Core) (l : ℕ) (w : Wire) (b signal n : ℕ) (f : Bool) → AlwaysOther (if f then if_here k.share b (look_block b (λ o. ends (intake_outcome c l w n b signal o))) else ends (not_enabled (reason.NotRouted (option_map (λ r. record { 0 = r }) w.route))))
-route_by c k l w b signal n true = here_by b _ (λ o. taken_other c l w n b signal o) (has k.share b)
-route_by c k l w b signal n false = tt
-
-pending_other : (c : ℕ) (k : Core) (l : ℕ) (w : Wire) (o : Option (ℕ × ℕ)) (p : Option ℕ) → AlwaysOther (intake_pending c k l w o p)
-pending_other c k l w None p = tt
-pending_other c k l w (Some to) None = tt
-pending_other c k l w (Some to) (Some n) = route_by c k l w to.0 to.1 n _
-
-intake_line_other : (c : ℕ) (k : Core) (l : ℕ) (o : Option Wire) → AlwaysOther (intake_line c k l o)
-intake_line_other c k l None = tt
-intake_line_other c k l (Some w) = pending_other c k l w w.bound w.pending
-
--- an order
-adopt_other : (c : ℕ) (k : Core) (b : ℕ) (parked : Bool) (v : Option Version) (o : Option Block) → Other (adopt_outcome c k b parked v o)
-adopt_other c k b parked None o = tt
-adopt_other c k b parked (Some v) None = tt
-adopt_other c k b parked (Some v) (Some x) = refl
-
-release_other : (c : ℕ) (k : Core) (b : ℕ) (o : Option Block) → Other (release_outcome c k b o)
-release_other c k b None = tt
-release_other c k b (Some x) = refl
-
-carry_other : (c : ℕ) (k : Core) (o : Order) → AlwaysOther (carry_out c k o)
-unfolding carry_out
-carry_other c k (orders.Start v) = refl
-carry_other c k orders.Stop = λ ls. refl
-carry_other c k (orders.Replace v) = λ ls. refl
-carry_other c k (orders.Adopt b parked) = λ o. adopt_other c k b.0 parked k.version o
-carry_other c k (orders.Release b) = λ o. release_other c k b.0 o
-
-order_other : (c : ℕ) (k : Core) (m : Option Mailbox) → AlwaysOther (order_turn c k m)
-order_other c k None = tt
-order_other c k (Some empty) = tt
-order_other c k (Some ack) = tt
-order_other c k (Some (order o)) = carry_other c k o
-
-action_other : (c : ℕ) (k : Core) (a : Action) → AlwaysOther (core_action c k a)
-action_other c k action.Step = step_other c k _
-action_other c k action.Order = λ m. order_other c k m
-action_other c k (action.Intake l) = on_by k.version _ (λ o. intake_line_other c k l.0 o)
-action_other c k (action.Wake b d) = wake_other c k b.0 d.0 _
-action_other c k action.Script = tt
-action_other c k action.Raise = tt
-
-core_other : (c : ℕ) (a : Action) (o : Option Core) → AlwaysOther (core_turn c a o)
-core_other c a None = tt
-core_other c a (Some k) = action_other c k a
 
 -- a raise
 raised_other : (t : Script) (q : ℕ) (o : Option ScriptLine) → AlwaysOther (raise_line t q o)
@@ -306,9 +141,24 @@ module _ (s : State) where
   script_moves polls true = tt
   script_moves polls false = raises_move polls (raise_above s.script.place (next_raise s.script.lines s.script.raises))
 
+  -- no core refuses a command
+  no_script : (c : ℕ) (o : Option Core) → Moves s (outcome s (core_turn c action.Script o))
+  no_script c None = tt
+  no_script c (Some k) = tt
+
+  core_moves : (c : ℕ) (a : Action) → is_script a ≡ false → (o : Outcome) → Mine c a o → Moves s o
+  core_moves c a n (did changes e) m = λ h. absurd (let bad : false ≡ true = sym n ∙ ap is_script (sym m.shown) ∙ ap is_script (refused_by_script e.what h) in cc)
+  core_moves c a n (not_enabled why) m = tt
+  core_moves c a n spent m = tt
+
   step_moves : (polls : ℕ) (who : Actor) (a : Action) → Moves s (core_step s polls who a)
   unfolding core_step turn_of
-  step_moves polls (actor.Core c) a = other_moves s _ (at_last Other s (core_turn c.0 a (slice_get s.cores c.0)) (core_other c.0 a (slice_get s.cores c.0)))
+  step_moves polls (actor.Core c) action.Script = no_script c.0 (slice_get s.cores c.0)
+  step_moves polls (actor.Core c) action.Step = core_moves c.0 action.Step refl _ (core_shows s polls c action.Step)
+  step_moves polls (actor.Core c) action.Order = core_moves c.0 action.Order refl _ (core_shows s polls c action.Order)
+  step_moves polls (actor.Core c) action.Raise = core_moves c.0 action.Raise refl _ (core_shows s polls c action.Raise)
+  step_moves polls (actor.Core c) (action.Intake l) = core_moves c.0 (action.Intake l) refl _ (core_shows s polls c (action.Intake l))
+  step_moves polls (actor.Core c) (action.Wake b d) = core_moves c.0 (action.Wake b d) refl _ (core_shows s polls c (action.Wake b d))
   step_moves polls actor.Script action.Script = script_moves polls (s.script.place == length s.script.lines)
   step_moves polls actor.Script action.Raise = other_moves s _ (at_last Other s (raise_turn s.script (next_raise s.script.lines s.script.raises)) (raise_other s.script (next_raise s.script.lines s.script.raises)))
   step_moves polls actor.Script action.Step = tt

@@ -18,6 +18,7 @@ use Rattle.dc_base.specs.States.{State, Core, Block, Whereabouts, rest, on, core
 use Rattle.dc_base.specs.Report.{block_no, core_line, core_lines, disp_lines, cap_line, port_lines, signal_lines, block_lines, channel_lines, offer_lines, line_lines, out_lines, report_lines}
 use Rattle.dc_base.specs.Headline.{Holding, holding_in, blocks_reported, holder_of}
 use Rattle.dc_base.specs.Telling.{with_holder, holders_from}
+use Rattle.dc_refine.proofs.CoreStarts.{map_map}
 use Rattle.dc_refine.proofs.Numbered.{filter_map-numbered, numbered-same, numbered-none}
 
 -- lines that tell of no block
@@ -137,3 +138,15 @@ holders-numbered n (x ∷ xs) =
 -- the blocks of the report, with their holders
 pub blocks-reported : (s : State) → blocks_reported (report_lines s) ≡ map (λ b. (b, holder_of (holders_from 0 s.blocks) b)) (range_with_len 0 (length s.blocks))
 blocks-reported s = reported s ∙ holders-numbered 0 s.blocks
+
+-- the same without the numbers
+numbers-dropped : (n : ℕ) (xs : List Block) → map (λ (h : Holding). h.1) (numbered {B = Holding} (λ b x. (b, core_in x.whereabouts) ∷ []) n xs) ≡ map (λ (x : Block). core_in x.whereabouts) xs
+numbers-dropped n [] = refl
+numbers-dropped n (x ∷ xs) = ap (λ l. core_in x.whereabouts ∷ l) (numbers-dropped (n + 1) xs)
+
+pub holders-listed : (xs : List Block) → map (holder_of (holders_from 0 xs)) (range_with_len 0 (length xs)) ≡ map (λ (x : Block). core_in x.whereabouts) xs
+holders-listed xs =
+    let hs : List (ℕ × ℕ) = holders_from 0 xs in
+    sym (map_map (λ b. (b, holder_of hs b)) (λ (h : Holding). h.1) (holder_of hs) (λ b. refl) (range_with_len 0 (length xs)))
+    ∙ ap (map (λ (h : Holding). h.1)) (sym (holders-numbered 0 xs))
+    ∙ numbers-dropped 0 xs

@@ -1,7 +1,7 @@
 //! The machine with cores refines the machine of blocks. Each law is the contract of a function that does nothing.
 #![tactic(auto)]
 
-ghost use Rattle.std.specs.Prelude.{◌≡◌, ◌+◌, ℕ, List, Some, IsTrue, map, length};
+ghost use Rattle.std.specs.Prelude.{◌≡◌, ◌+◌, ℕ, List, Some, map, length};
 ghost use Rattle.std.specs.List.{range_with_len};
 ghost use Rattle.dc_base.specs.declared.images.Image.{Image};
 ghost use Rattle.dc_base.specs.declared.actions.Actor.{Actor};
@@ -11,18 +11,20 @@ ghost use Rattle.dc_base.specs.declared.commands.ScriptLine.{ScriptLine};
 ghost use Rattle.dc_base.specs.declared.entries.Entry.{Entry};
 ghost use Rattle.dc_base.specs.declared.entries.What.TheVariants as what;
 ghost use Rattle.dc_base.specs.Blocks.{Blocks, blocks_start};
-ghost use Rattle.dc_base.specs.States.{State, core_start};
+ghost use Rattle.dc_base.specs.States.{State, Settings, core_start};
 ghost use Rattle.dc_base.specs.Script.{next_command};
 ghost use Rattle.dc_base.specs.Changes.{Change, apply};
 ghost use Rattle.dc_base.specs.Turns.{did};
 ghost use Rattle.dc_base.specs.Cores.{core_step};
-ghost use Rattle.dc_base.specs.CoreRuns.{core_run_from, core_run};
+ghost use Rattle.dc_base.specs.CoreRuns.{core_run_from, core_run, own_schedule};
+ghost use Rattle.dc_base.specs.Histories.{IsLawfulHistory, after, entries_in, history_of};
 ghost use Rattle.dc_base.specs.StandsFor.{StandsFor};
 ghost use Rattle.dc_base.specs.Runs.{Terms, terms_of, Seen, seen_start, run_from, run};
 ghost use Rattle.dc_base.specs.Report.{report_lines};
 ghost use Rattle.dc_base.specs.Shown.{shown, all_shown_by};
+ghost use Rattle.dc_base.specs.Origins.{image_origin};
 ghost use Rattle.dc_base.specs.Headline.{blocks_reported, holder_of, IsReportedRun};
-ghost use Rattle.dc_base.specs.Openings.{IsOpening, blocks_opened, seen_opened, run_of_opening};
+ghost use Rattle.dc_base.specs.Openings.{IsOpening, blocks_opened, seen_opened, opening_origin, IsReportedRunFrom};
 ghost use Rattle.dc_base.specs.Sound.{IsSound};
 ghost use Rattle.dc_base.specs.Telling.{Agrees, IsOf, holders_from, terms_at};
 ghost use Rattle.dc_base.specs.Valid.{IsValid};
@@ -75,11 +77,36 @@ pub fn openings_stand()
     ensures agrees { (s : State) → Agrees s (seen_opened s) }
 {}
 
-/// Where soundness is kept, the journal of a schedule's run from an opening is a run from there, its last state stands for the last blocks, and the report shows them.
+/// The start of an image is an opening, and what a run starts from by the words of the image is what it starts from by this opening.
+pub fn starts_are_openings()
+    ensures opening { (image : Image) (script : List ScriptLine) → IsValid image → IsSound (core_start image script) → IsOpening (core_start image script) }
+    ensures same { (image : Image) (script : List ScriptLine) → IsValid image → IsSound (core_start image script) → image_origin image script ≡ opening_origin (core_start image script) }
+{}
+
+/// Of each lawful history from a sound state, the run of the schedule that it shows has that journal, and comes to the state after it.
+pub fn lawful_histories_are_runs()
+    ensures journal { (t : Settings) (s : State) (history : List (ℕ × Entry)) → IsSound s → IsLawfulHistory t s history →
+        (core_run_from s (own_schedule s.script.lines (entries_in history))).journal ≡ entries_in history }
+    ensures state { (t : Settings) (s : State) (history : List (ℕ × Entry)) → IsSound s → IsLawfulHistory t s history →
+        (core_run_from s (own_schedule s.script.lines (entries_in history))).state ≡ after s history }
+{}
+
+/// The journal of each run of a schedule is a lawful history, and leads to the last state of the run.
+pub fn runs_are_lawful_histories()
+    ensures lawful { (t : Settings) (s : State) (schedule : List (Actor × Action)) → IsLawfulHistory t s (history_of t (core_run_from s schedule).journal) }
+    ensures state { (t : Settings) (s : State) (schedule : List (Actor × Action)) → after s (history_of t (core_run_from s schedule).journal) ≡ (core_run_from s schedule).state }
+{}
+
+/// Where soundness is kept, the journal of a schedule's run from an opening and its report are a reported run from there; its last state stands for the last blocks, and agrees with all that
+/// the journal has told.
 pub fn openings_run()
-    ensures run { (s : State) (schedule : List (Actor × Action)) → IsOpening s → SoundnessStays → IsTrue (run_of_opening s (core_run_from s schedule).journal) }
+    ensures reported { (s : State) (schedule : List (Actor × Action)) → IsOpening s → SoundnessStays →
+        IsReportedRunFrom s (core_run_from s schedule).journal (report_lines (core_run_from s schedule).state) }
     ensures stands { (s : State) (schedule : List (Actor × Action)) → IsOpening s → SoundnessStays →
         (seen : Seen) → run_from (terms_at s) s.script.lines (seen_opened s) (core_run_from s schedule).journal ≡ Some seen → StandsFor (core_run_from s schedule).state seen.blocks }
     ensures shown { (s : State) (schedule : List (Actor × Action)) → IsOpening s → SoundnessStays →
         (seen : Seen) → run_from (terms_at s) s.script.lines (seen_opened s) (core_run_from s schedule).journal ≡ Some seen → all_shown_by (report_lines (core_run_from s schedule).state) ≡ shown seen.blocks }
+    ensures agrees { (s : State) (schedule : List (Actor × Action)) → IsOpening s → SoundnessStays →
+        (seen : Seen) → run_from (terms_at s) s.script.lines (seen_opened s) (core_run_from s schedule).journal ≡ Some seen → Agrees (core_run_from s schedule).state seen }
+    ensures sound { (s : State) (schedule : List (Actor × Action)) → IsOpening s → SoundnessStays → IsSound (core_run_from s schedule).state }
 {}
