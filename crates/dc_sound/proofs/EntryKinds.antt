@@ -309,7 +309,7 @@ module _ (s : State) (chs : List Change) (e : Entry) where
 
   -- a slice
 
-  outside_comes : (b : ℕ) (w : Need) (next : Outside → Turn) → Comes (look_outside b w next) → Comes (next (outside_at s b w))
+  pub outside_comes : (b : ℕ) (w : Need) (next : Outside → Turn) → Comes (look_outside b w next) → Comes (next (outside_at s b w))
   unfolding look_outside
   outside_comes b needs.Nothing next g = g
   outside_comes b needs.Console next g = g
@@ -533,7 +533,8 @@ module _ (s : State) (chs : List Change) (e : Entry) where
       (subst (λ (m : Looked). ((b == m.number) || has share m.number) ≡ true) one (number_same b (has share b)), subst (λ (m : Looked). slice_get s.blocks m.number ≡ m.found) one refl)
   found_by p share b l more false e = (ap (λ t. (b == l.number) || t) (more e).0 ∙ or-true (b == l.number), (more e).1)
 
-  found : (p : Looked → Bool) (share : List Member) (l : Looked) → find p (map (looked_at s.blocks) (share_blocks share)) ≡ Some l → (has share l.number ≡ true) × (slice_get s.blocks l.number ≡ l.found)
+  -- the block that is found is of the share
+  pub found : (p : Looked → Bool) (share : List Member) (l : Looked) → find p (map (looked_at s.blocks) (share_blocks share)) ≡ Some l → (has share l.number ≡ true) × (slice_get s.blocks l.number ≡ l.found)
   found p [] l e = absurd cc
   found p (m ∷ ms) l e = found_by p ms m.block l (λ h. found p ms l h) (p (looked_at s.blocks m.block)) e
 
