@@ -2,6 +2,7 @@
 use Rattle.std.specs.Prelude.{◌≡◌, ℕ, ◌≤◌, ◌+◌, List, Bool, true, false, Some, IsSome, IfSome, slice_get, length, is_some}
 use Rattle.std.specs.List.{list_any}
 use Rattle.dc_base.specs.Words.{Each, count_of}
+use Rattle.dc_base.specs.Limits.{console_room}
 use Rattle.dc_base.specs.Capabilities.{Seat, is_of_line}
 use Rattle.dc_base.specs.Channels.{Ring}
 use Rattle.dc_base.specs.ControlBlocks.{ControlBlock}
@@ -18,7 +19,7 @@ abbrev pub KeepsRings : State → Type 0
 KeepsRings s = Each s.channels (λ x r. KeepsRing r)
 
 pub record KeepsConsole (ws : List ℕ) : Type 0 where
-  pub room : length ws ≤ 65536
+  pub room : length ws ≤ console_room
   pub words : AreWords ws
 
 abbrev pub KeepsConsoles : State → Type 0

@@ -1,5 +1,5 @@
 ghost use Rattle.std.specs.Prelude.{◌≡◌, ◌<◌, ◌≤◌, ◌↔◌, [], ◌∷◌, ◌++◌, length, slice_get, IsTrue, IsOk, IfOk, OnOk, OnErr};
-ghost use Rattle.dc_channel.specs.Consoles.{console_room};
+ghost use Rattle.dc_base.specs.Limits.{console_room};
 
 use dc_base::memory::Memory;
 use std::alloc::Global;

@@ -8,7 +8,7 @@ use Rattle.std.proofs.lemmas.List.{length-take}
 use Rattle.toml.specs.Data.{Members}
 use Rattle.dc_base.specs.Results.{◌>>=◌, or_fault}
 use Rattle.dc_base.specs.FaultText.{ImageRefusal, not_toml, too_long}
-use Rattle.dc_base.specs.TextWords.{longest_file}
+use Rattle.dc_base.specs.Limits.{longest_file}
 use Rattle.dc_base.specs.declared.numbers.CoreNo.{CoreNo}
 use Rattle.dc_base.specs.declared.kernels.Clocks.{Clocks}
 use Rattle.dc_base.specs.declared.kernels.Clocks.TheVariants.{Kept}

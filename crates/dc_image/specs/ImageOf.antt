@@ -7,7 +7,7 @@ use Rattle.dc_base.specs.declared.images.Image.{Image}
 use Rattle.dc_base.specs.declared.images.CoreImage.{CoreImage}
 use Rattle.dc_base.specs.declared.images.ChanImage.{ChanImage}
 use Rattle.dc_base.specs.Results.{◌>>=◌, or_fault}
-use Rattle.dc_base.specs.TextWords.{longest_file}
+use Rattle.dc_base.specs.Limits.{longest_file}
 use Rattle.dc_base.specs.FaultText.{ImageRefusal, too_long, not_toml}
 use Rattle.dc_image.specs.ImageKeys.{Table, required, optional, maybe, number_where, number_within, number_below, word_where, item_count, array_within, each_within, table_by, version_of, clocks_in}
 use Rattle.dc_image.specs.BlocksOf.{blocks_in}

@@ -1,5 +1,5 @@
 ghost use Rattle.std.specs.Prelude.{◌≡◌, ◌≤◌, [], length, None, OnOk, OnErr, IsErrOf};
-ghost use Rattle.dc_base.specs.TextWords.{longest_file};
+ghost use Rattle.dc_base.specs.Limits.{longest_file};
 ghost use Rattle.dc_io.specs.Counts.{Rose};
 ghost use Rattle.dc_io.specs.Loads.{faults_after};
 

@@ -1,7 +1,7 @@
 ghost use Rattle.std.specs.Prelude.{◌≡◌, ◌≢◌, ℕ, ◌<◌, ◌≤◌, ◌==◌, ◌↔◌, List, [], length, find, if◌then◌else◌, Option, Some, None, Err, IsNone, IsSomeAnd, OnOk, OnErr, IsErrOf};
 ghost use Rattle.std.specs.List.{list_any};
 ghost use Rattle.std.specs.Option.{option_copied};
-ghost use Rattle.dc_base.specs.TextWords.{longest_file};
+ghost use Rattle.dc_base.specs.Limits.{longest_file};
 ghost use Rattle.dc_io.specs.Counts.{Rose};
 ghost use Rattle.dc_io.specs.Files.{is_named};
 

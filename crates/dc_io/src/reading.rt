@@ -1,6 +1,6 @@
 ghost use Rattle.std.specs.Prelude.{◌≡◌, ◌≢◌, ℕ, ◌+◌, ◌<◌, ◌≤◌, List, [], ◌++◌, length, vec_len, Ok, Err, IfOk, IfErr, IfSome, OnOk, OnErr, IsErrOf};
 ghost use Rattle.std.specs.Io.KnownBytes.{Consumes, IsAtEnd};
-ghost use Rattle.dc_base.specs.TextWords.{longest_file};
+ghost use Rattle.dc_base.specs.Limits.{longest_file};
 
 use crate::shelves::{LONGEST_FILE, Load};
 use std::alloc::Global;

@@ -1,5 +1,5 @@
 ghost use Rattle.std.specs.Prelude.{◌≡◌, ℕ, ◌<◌, ◌≤◌, List, [], length, Option, IfSome, OnOk, OnErr, IsErrOf};
-ghost use Rattle.dc_base.specs.TextWords.{longest_file};
+ghost use Rattle.dc_base.specs.Limits.{longest_file};
 ghost use Rattle.dc_io.specs.Counts.{Rose};
 
 use std::alloc::Global;

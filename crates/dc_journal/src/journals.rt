@@ -2,7 +2,7 @@
 
 ghost use Rattle.std.specs.Prelude.{◌≡◌, ◌&&◌, ◌+◌, ◌-◌, ◌<◌, ◌≤◌, ◌^◌, ◌↔◌, ℕ, Ok, Err, length, vec_len, bytes_eq, IfOk, IfSome};
 ghost use Rattle.dc_base.specs.declared.faults.JournalFault.TheVariants.{TooLong, Bad};
-ghost use Rattle.dc_base.specs.TextWords.{longest_file};
+ghost use Rattle.dc_base.specs.Limits.{longest_file};
 ghost use Rattle.dc_base.specs.EntryText.{entry_text};
 ghost use Rattle.dc_base.specs.EntryRanges.{has_line};
 ghost use Rattle.dc_base.specs.JournalText as spec;

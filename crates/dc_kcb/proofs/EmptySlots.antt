@@ -1,12 +1,9 @@
 -- Slots past those of the dispatchers are empty.
 use Rattle.std.proofs.Common.{◌≡◌, ℕ, suc, ◌*◌, ◌<◌, ◌≤◌, false, List, [], ◌∷◌, Some, None, refl, ap, ◌∙◌, arith}
-use Rattle.std.specs.Prelude.{◌==◌, Option, if◌then◌else◌}
-use Rattle.std.specs.Option.{option_map}
+use Rattle.std.specs.Prelude.{◌==◌, if◌then◌else◌}
 use Rattle.std.proofs.lemmas.Bool.{ne_eqb}
-use Rattle.std.proofs.lemmas.Option.{none-some}
-use Rattle.dc_base.specs.declared.capabilities.Cap.{Cap}
 use Rattle.dc_base.specs.Words.{Each}
-use Rattle.dc_base.specs.Capabilities.{Seat, seat_at, cap_at, parent_in, parent_at}
+use Rattle.dc_base.specs.Capabilities.{Seat, seat_at, cap_at}
 use Rattle.dc_caps.specs.Caps.{Caps, IsTable}
 
 -- no seat is at a slot past the bound

@@ -20,7 +20,7 @@ use Rattle.dc_base.specs.Valid.{NamesOf, IsValidDisp}
 use Rattle.dc_caps.specs.Caps.{Caps, IsRange}
 use Rattle.dc_exec.specs.Steps.{context_of}
 use Rattle.dc_ready.specs.Entries.{dispatchers, entries_of, AreDues, AreOnceBelow, IsReadyList}
-use Rattle.dc_sound.specs.SoundControls.{IsSoundControl}
+use Rattle.dc_block_sound.specs.SoundControls.{IsSoundControl}
 use Rattle.dc_timers.specs.Numbers.{by_number, AreNumbered}
 use Rattle.dc_kcb.specs.declared.parts.Parts.{Parts}
 use Rattle.dc_kcb.specs.Controls.{control_of, state_of, due_of, period_of}

@@ -2,7 +2,7 @@
 use Rattle.std.specs.Prelude.{◌≡◌, ℕ, map, length}
 use Rattle.dc_base.specs.Timers.{in_order}
 use Rattle.dc_base.specs.ControlBlocks.{ControlBlock}
-use Rattle.dc_sound.specs.SoundControls.{IsSoundControl}
+use Rattle.dc_block_sound.specs.SoundControls.{IsSoundControl}
 use Rattle.dc_ready.specs.Entries.{entries_of, AreDues, IsReadyList}
 use Rattle.dc_timers.specs.Numbers.{by_number, AreNumbered}
 use Rattle.dc_kcb.specs.declared.parts.Parts.{Parts}

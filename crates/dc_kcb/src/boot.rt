@@ -9,7 +9,7 @@ use crate::starts::{all_ready, codes, dispatchers, empty_ports, empty_signals, w
 use arrayvec::ArrayVec;
 use dc_base::images::BlockImage;
 use dc_base::memory::Memory;
-use dc_sound::started_controls_are_sound;
+use dc_block_sound::started_controls_are_sound;
 use std::alloc::Global;
 
 /// The parts as the image gives them.

@@ -10,7 +10,7 @@ use Rattle.dc_base.specs.Capabilities.{Seat, cap_at}
 use Rattle.dc_base.specs.ControlBlocks.{ControlBlock}
 use Rattle.dc_base.specs.Instructions.{are_slots}
 use Rattle.dc_base.specs.Words.{Each}
-use Rattle.dc_sound.specs.SoundControls.{NamesOwn, NamesWithin}
+use Rattle.dc_block_sound.specs.SoundControls.{NamesOwn, NamesWithin}
 
 -- what holds of all that is held holds of what a slot holds
 held_at : (P : CapKind → Type 0) (s : ℕ) (caps : List Seat) → Each caps (λ i (h : Seat). P h.cap.kind) → (cap : Cap) → cap_at caps s ≡ Some cap → P cap.kind

@@ -11,7 +11,8 @@ use Rattle.dc_base.specs.Effects.{Context}
 use Rattle.dc_base.specs.Instructions.{is_proper}
 use Rattle.dc_base.specs.Kernel.{Call, faults, waits, makes, call_of, with_end_and_frame, with_next_place, cap_in, number_in, first_in, send, recv}
 use Rattle.dc_base.specs.Parts.{Parts, words_at, with_words, with_message}
-use Rattle.dc_base.specs.Ports.{messages_in, port_room, ports_after_send}
+use Rattle.dc_base.specs.Limits.{port_room}
+use Rattle.dc_base.specs.Ports.{messages_in, ports_after_send}
 use Rattle.dc_base.specs.Words.{elements}
 use Rattle.dc_kernel.proofs.CallEnds.{slots_within}
 use Rattle.dc_kernel.proofs.CallLists.{change_set}

@@ -1,5 +1,5 @@
 -- What a wait for a signal comes to, and an armed timer.
-use Rattle.std.proofs.Common.{◌≡◌, ℕ, zero, suc, ◌+◌, ◌<◌, ◌≤◌, ◌↔◌, List, [], ◌∷◌, length, ap, sym, refl, ◌∙◌, subst, arith}
+use Rattle.std.proofs.Common.{◌≡◌, ℕ, zero, suc, ◌+◌, ◌<◌, ◌≤◌, ◌↔◌, List, [], ◌∷◌, length, ap, sym, refl, ◌∙◌, arith}
 use Rattle.std.specs.Prelude.{Option, Some, None, Result, nat_le, is_none, IsTrue, IsOk, IsErr, if◌then◌else◌, slice_get, slice_set}
 use Rattle.std.proofs.lemmas.Bool.{le-leb, lt-leb, and_parts, ltb-true}
 use Rattle.dc_base.specs.declared.capabilities.Cap.{Cap}
@@ -16,7 +16,7 @@ use Rattle.dc_base.specs.Ports.{latch_at}
 use Rattle.dc_isa.specs.declared.dispatchers.Dispatcher.{Dispatcher}
 use Rattle.dc_kcb.specs.Controls.{Store, Agenda, control_of}
 use Rattle.dc_kernel.specs.Contexts.{at_context}
-use Rattle.dc_kernel.proofs.CallContexts.{context_is, disp_within}
+use Rattle.dc_kernel.proofs.CallContexts.{context_is}
 use Rattle.dc_kernel.proofs.CallResults.{err_not_ok}
 
 pub wait_fields : (a b : ℕ) → IsTrue (is_proper (Wait a b)) → (a < 16) × (b < 8)

@@ -15,7 +15,8 @@ use Rattle.dc_base.specs.Instructions.{are_slots}
 use Rattle.dc_base.specs.Effects.{Context, reg}
 use Rattle.dc_base.specs.Capabilities.{Seat, seat_at, cap_at, is_used, slot_number, with_child, has_child_within, is_ram, is_frame, is_port, is_signal, is_other, lacks, read_right, write_right, grant_right}
 use Rattle.dc_base.specs.Parts.{Parts, words_at}
-use Rattle.dc_base.specs.Ports.{port_room, ports_after_send, messages_in, latch_at}
+use Rattle.dc_base.specs.Limits.{port_room}
+use Rattle.dc_base.specs.Ports.{ports_after_send, messages_in, latch_at}
 use Rattle.dc_base.specs.Kernel.{Call, faults, waits, makes, length_in, rights_in, with_timer, with_copy, memory_cap, with_end_and_frame, send, recv, take_latch, wait_call, arm_call, copy_call, retype_call, call_of, with_next_place, number_in, first_in, cap_in}
 use Rattle.dc_base.specs.Serving.{need}
 use Rattle.dc_exec.specs.Calls.{is_proper_call}

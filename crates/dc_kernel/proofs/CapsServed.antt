@@ -3,7 +3,6 @@ use Rattle.std.proofs.Common.{◌≡◌, ℕ, ◌<◌, ◌≤◌, List, Bool, So
 use Rattle.std.proofs.lemmas.List.{length-map}
 use Rattle.std.proofs.lemmas.Option.{slice_get_within}
 use Rattle.dc_base.specs.declared.messages.Message.{Message}
-use Rattle.dc_base.specs.Words.{Each}
 use Rattle.dc_base.specs.Capabilities.{cap_at}
 use Rattle.dc_base.specs.Effects.{Context, reg}
 use Rattle.dc_base.specs.Kernel.{Call, faults, makes, with_next_place, retype_call}
@@ -15,7 +14,6 @@ use Rattle.dc_exec.specs.Steps.{context_of}
 use Rattle.dc_kcb.specs.Controls.{Agenda, control_of, state_of}
 use Rattle.dc_kernel.specs.declared.answers.Answer.TheVariants as answer
 use Rattle.dc_kernel.specs.Serves.{Serves, IsRunning}
-use Rattle.dc_kernel.proofs.CallContexts.{running_within, running_places}
 use Rattle.dc_kernel.proofs.CallServed.{serves_faults, serves_makes}
 
 -- the registers of a context tell a part of raw memory

@@ -22,7 +22,7 @@ use Rattle.dc_base.specs.Words.{bind, lists, without}
 use Rattle.dc_exec.specs.declared.ends.Ahead.{Ahead}
 use Rattle.dc_exec.specs.Ends.{end_seen}
 use Rattle.dc_exec.specs.Slices.{ahead_seen}
-use Rattle.dc_sound.specs.SoundControls.{IsSoundControl, IsSoundBesideReady, Suits}
+use Rattle.dc_block_sound.specs.SoundControls.{IsSoundControl, IsSoundBesideReady, Suits}
 use Rattle.dc_kernel.specs.declared.drivers.Forward.{Forward}
 use Rattle.dc_kernel.specs.declared.drivers.Sliced.{Sliced}
 use Rattle.dc_kernel.specs.declared.outsides.Outside.{Outside}

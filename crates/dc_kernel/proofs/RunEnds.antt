@@ -5,7 +5,6 @@ use Rattle.std.proofs.lemmas.List.{length-set}
 use Rattle.std.proofs.lemmas.Option.{slice_get-get_or, slice_get_within}
 use Rattle.dc_base.specs.declared.calls.End.{End}
 use Rattle.dc_base.specs.declared.calls.End.TheVariants as end
-use Rattle.dc_base.specs.declared.calls.Need.{Need}
 use Rattle.dc_base.specs.declared.calls.Need.TheVariants as needs
 use Rattle.dc_base.specs.declared.calls.Op.{Op}
 use Rattle.dc_base.specs.declared.instructions.Instr.{Instr}
@@ -18,8 +17,8 @@ use Rattle.dc_base.specs.ControlBlocks.{ControlBlock}
 use Rattle.dc_base.specs.Kernel.{call_of}
 use Rattle.dc_base.specs.Serving.{need, serve, nothing_outside}
 use Rattle.dc_base.specs.Slices.{ready_last, with_state, stops, after_ahead, after_served, with_ahead, need_of, due_after, with_due, slice_end}
-use Rattle.dc_exec.specs.Calls.{call_name, end_at, is_proper_call}
-use Rattle.dc_sound.proofs.Elements.{set_here}
+use Rattle.dc_exec.specs.Calls.{call_name, is_proper_call}
+use Rattle.dc_block_sound.proofs.Elements.{set_here}
 use Rattle.dc_kernel.specs.declared.drivers.Sliced.{Sliced}
 use Rattle.dc_kernel.specs.declared.outsides.Outside.{Outside}
 use Rattle.dc_kernel.specs.declared.outsides.Outside.TheVariants as outside

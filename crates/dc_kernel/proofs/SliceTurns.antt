@@ -9,6 +9,7 @@ use Rattle.dc_base.specs.Words.{bind}
 use Rattle.dc_base.specs.Changes.{core_becomes, block_becomes}
 use Rattle.dc_base.specs.ControlBlocks.{ControlBlock}
 use Rattle.dc_base.specs.Firing.{Fired}
+use Rattle.dc_base.specs.NeedsHere.{need_here}
 use Rattle.dc_base.specs.Serving.{need, Outside, Served, faulted, held_up, served, serve}
 use Rattle.dc_base.specs.Slices.{Halfway, stopped, stands, halfway, slice_of, slice_end, need_of, without_ready, with_due, after_served}
 use Rattle.dc_base.specs.States.{State, Core, Block, with_control}
@@ -17,7 +18,7 @@ use Rattle.dc_base.specs.Turns.{Turn, did, outcome}
 use Rattle.dc_kernel.specs.Running.{Running, on_core, time_in}
 use Rattle.dc_kernel.specs.Forwards.{fired, picked, halfway_in, need_in}
 use Rattle.dc_kernel.specs.Done.{done, done_by, done_picked}
-use Rattle.dc_kernel.specs.Turned.{look_in, outcome_by, done_outcome}
+use Rattle.dc_kernel.specs.Turned.{look_in, look_here, outcome_by, done_outcome}
 
 looks_in : (s : State) (b : ℕ) (n : Need) (next : Outside → Turn) → outcome s (look_outside b n next) ≡ outcome s (next (look_in s b n))
 unfolding look_outside
@@ -44,18 +45,18 @@ ended c k b x v d count h out =
     ap (λ n. did (core_becomes c (core_after_slice k b (k.clock + sl.advance)) ∷ block_becomes b (with_control sl.control x) ∷ outside_change b n sl.outside) (slice_entry c b d count sl (k.clock + sl.advance))) (end_needs c b v d h out)
 
 finishes : (s : State) (c : ℕ) (k : Core) (b : ℕ) (x : Block) (v : Version) (d count : ℕ) (o : Option Halfway) →
-    outcome s (finish_slice c k b x v d count o) ≡ done_outcome c k b x (need_in o) (option_map (done_by d count) (option_map (λ h. slice_end c b v d h (look_in s b (need_of h))) o))
+    outcome s (finish_slice c k b x v d count o) ≡ done_outcome c k b x (need_in o) (option_map (done_by d count) (option_map (λ h. slice_end c b v d h (look_here k.settings s b (need_of h))) o))
 finishes s c k b x v d count None = refl
-finishes s c k b x v d count (Some h) = looks_in s b (need_of h) _ ∙ ended c k b x v d count h (look_in s b (need_of h))
+finishes s c k b x v d count (Some h) = looks_in s b (need_here k.settings (need_of h)) _ ∙ ended c k b x v d count h (look_here k.settings s b (need_of h))
 
 picks : (s : State) (c : ℕ) (k : Core) (b : ℕ) (x : Block) (r : Running) (f : Fired) (o : Option ℕ) →
     outcome s (slice_picked c k b x (time_in k.clock r) r.version f o)
-    ≡ done_outcome c k b x (need_in (bind o (λ d. halfway k.settings.quantum (time_in k.clock r) (without_ready d f.control) d))) (done_picked (look_in s b) k.settings.quantum c b k.clock r f o)
+    ≡ done_outcome c k b x (need_in (bind o (λ d. halfway k.settings.quantum (time_in k.clock r) (without_ready d f.control) d))) (done_picked (look_here k.settings s b) k.settings.quantum c b k.clock r f o)
 unfolding slice_of
 picks s c k b x r f None = refl
 picks s c k b x r f (Some d) = finishes s c k b x r.version d f.count _
 
 pub slice_done : (s : State) (c : ℕ) (k : Core) (b : ℕ) (r : Running) →
-    outcome s (slice_turn c k b (Some (on_core c r))) ≡ done_outcome c k b (on_core c r) (need_in (halfway_in k.settings.quantum k.clock r)) (done (look_in s b) k.settings.quantum c b k.clock r)
+    outcome s (slice_turn c k b (Some (on_core c r))) ≡ done_outcome c k b (on_core c r) (need_in (halfway_in k.settings.quantum k.clock r)) (done (look_here k.settings s b) k.settings.quantum c b k.clock r)
 unfolding slice_turn done
 slice_done s c k b r = picks s c k b (on_core c r) r (fired k.clock r) (picked k.clock r)

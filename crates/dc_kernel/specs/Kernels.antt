@@ -3,7 +3,7 @@ use Rattle.std.specs.Prelude.{◌^◌, Bool, true, false, ℤ, pos, ◌+ℤ◌, 
 use Rattle.dc_base.specs.declared.kernels.Version.{Version}
 use Rattle.dc_base.specs.declared.kernels.Version.TheVariants.{Rr, Edf}
 use Rattle.dc_base.specs.ControlBlocks.{ControlBlock}
-use Rattle.dc_sound.specs.SoundControls.{IsSoundControl}
+use Rattle.dc_block_sound.specs.SoundControls.{IsSoundControl}
 
 -- its block is sound, and its time is less than 2^64 from the core's clock
 pub record IsKept (x : ControlBlock) (offset : ℤ) : Type 0 where

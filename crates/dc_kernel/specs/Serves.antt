@@ -6,7 +6,7 @@ use Rattle.dc_base.specs.Parts.{Parts}
 use Rattle.dc_base.specs.Kernel.{Call}
 use Rattle.dc_base.specs.ControlBlocks.{ControlBlock}
 use Rattle.dc_base.specs.Serving.{Outside, Served, faulted, held_up, served, serve}
-use Rattle.dc_sound.specs.SoundControls.{IsSoundBesideReady}
+use Rattle.dc_block_sound.specs.SoundControls.{IsSoundBesideReady}
 use Rattle.dc_kernel.specs.declared.answers.Answer.{Answer}
 use Rattle.dc_kernel.specs.declared.answers.Answer.TheVariants as answer
 

@@ -5,9 +5,10 @@ use Rattle.dc_base.specs.declared.calls.Need.TheVariants as needs
 use Rattle.dc_base.specs.declared.entries.What.TheVariants as what
 use Rattle.dc_base.specs.declared.entries.Reason.TheVariants as reason
 use Rattle.dc_base.specs.Changes.{core_becomes, block_becomes}
+use Rattle.dc_base.specs.NeedsHere.{need_here}
 use Rattle.dc_base.specs.Outcomes.{by_core}
 use Rattle.dc_base.specs.Serving.{Outside, nothing_outside}
-use Rattle.dc_base.specs.States.{State, Core, Block, with_control}
+use Rattle.dc_base.specs.States.{State, Settings, Core, Block, with_control}
 use Rattle.dc_base.specs.Steps.{as_console, as_channel, as_line, outside_change, core_after_slice}
 use Rattle.dc_base.specs.Turns.{Outcome, did, not_enabled}
 use Rattle.dc_kernel.specs.Done.{Done}
@@ -18,6 +19,10 @@ look_in s b needs.Nothing = nothing_outside
 look_in s b needs.Console = as_console (slice_get s.consoles b)
 look_in s b (needs.Channel x) = as_channel (slice_get s.channels x.0)
 look_in s b (needs.Line l) = as_line (slice_get s.lines l.0)
+
+-- where it exists
+abbrev pub look_here : Settings → State → ℕ → Need → Outside
+look_here t s b n = look_in s b (need_here t n)
 
 abbrev pub outcome_by : ℕ → Core → ℕ → Block → Need → Done → Option ℕ → Outcome
 outcome_by c k b x n d None = did

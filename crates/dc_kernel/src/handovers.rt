@@ -1,14 +1,14 @@
 //! A block comes under a kernel, and goes out from under it.
 
 ghost use Rattle.std.specs.Prelude.{◌≡◌};
-ghost use Rattle.dc_sound.specs.SoundControls.{IsSoundControl};
+ghost use Rattle.dc_block_sound.specs.SoundControls.{IsSoundControl};
 ghost use Rattle.dc_kcb.specs.Wholes.{resting_of, AreWhole};
 
 use crate::agendas::Agenda;
 use crate::forms::Form;
+use dc_block_sound::ready_stand_once;
 use dc_kcb::Parts;
 use dc_ready::ReadyList;
-use dc_sound::ready_stand_once;
 use dc_timers::TimerQueue;
 
 impl<R: ReadyList, T: TimerQueue> Form<R, T> {

@@ -13,14 +13,14 @@ use dc_base::capabilities::Cap;
 use dc_base::interrupts::{Latch, Latched, Timer};
 use dc_base::kernels::Version;
 use dc_base::numbers::{BlockNo, CoreNo, DispNo, PortNo, SignalNo, SlotNo};
+use dc_block_sound::{
+    aheads_keep_controls, firing_keeps_controls, latching_keeps_controls, picked_is_ready,
+    ready_stand_once, slices_keep_controls, waking_keeps_controls,
+};
 use dc_isa::Dispatcher;
 use dc_kcb::Kcb;
 use dc_ports::Port;
 use dc_ready::ReadyList;
-use dc_sound::{
-    aheads_keep_controls, firing_keeps_controls, latching_keeps_controls, picked_is_ready,
-    ready_stand_once, slices_keep_controls, waking_keeps_controls,
-};
 use dc_timers::{Clock, TimerQueue};
 use std::marker::Model;
 

@@ -7,7 +7,7 @@ ghost use Rattle.dc_base.specs.Turns.{outcome};
 ghost use Rattle.dc_kernel.specs.Running.{Running, on_core};
 ghost use Rattle.dc_kernel.specs.Forwards.{halfway_in, need_in};
 ghost use Rattle.dc_kernel.specs.Done.{done};
-ghost use Rattle.dc_kernel.specs.Turned.{look_in, done_outcome};
+ghost use Rattle.dc_kernel.specs.Turned.{look_here, done_outcome};
 
 use crate::drivers::Driver;
 use dc_base::kernels::Version;
@@ -23,7 +23,7 @@ pub fn adopt_and_surrender<D: Driver>(v: Version, kcb: Kcb, now: u64) -> Kcb
     D::adopt(v, kcb, now).surrender(now)
 }
 
-/// A slice of a core's turn does what a whole slice of its block does, with the object that its call needs.
+/// A slice of a core's turn does what a whole slice of its block does, with the object that its call needs, where it exists.
 pub fn slice_is_done()
-    ensures { (s : State) (c : ℕ) (k : Core) (b : ℕ) (r : Running) → outcome s (slice_turn c k b (Some (on_core c r))) ≡ done_outcome c k b (on_core c r) (need_in (halfway_in k.settings.quantum k.clock r)) (done (look_in s b) k.settings.quantum c b k.clock r) }
+    ensures { (s : State) (c : ℕ) (k : Core) (b : ℕ) (r : Running) → outcome s (slice_turn c k b (Some (on_core c r))) ≡ done_outcome c k b (on_core c r) (need_in (halfway_in k.settings.quantum k.clock r)) (done (look_here k.settings s b) k.settings.quantum c b k.clock r) }
 {}

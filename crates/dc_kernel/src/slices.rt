@@ -22,7 +22,7 @@ ghost use Rattle.dc_base.specs.Serving.{need as need_of_call, serve};
 ghost use Rattle.dc_exec.specs.Calls.{call_name as name_of, is_proper_call};
 ghost use Rattle.dc_exec.specs.Ends.{end_seen};
 ghost use Rattle.dc_exec.specs.Slices.{ahead_seen};
-ghost use Rattle.dc_sound.specs.SoundControls.{IsSoundControl};
+ghost use Rattle.dc_block_sound.specs.SoundControls.{IsSoundControl};
 ghost use Rattle.dc_kernel.specs.Outsides.{outside_seen, HasRoom, Fits};
 ghost use Rattle.dc_kernel.specs.Serves.{IsRunning, Serves};
 ghost use Rattle.dc_kernel.specs.Slices.{after_plain, half_of, sliced_seen};

@@ -19,8 +19,8 @@ use Rattle.dc_base.specs.Named.{waits_on_channel}
 use Rattle.dc_base.specs.Serving as seen
 use Rattle.dc_base.specs.Slices.{Halfway, halfway, slice_of, slice_end, without_ready}
 use Rattle.dc_isa.specs.declared.dispatchers.Dispatcher.{Dispatcher}
-use Rattle.dc_sound.specs.SoundControls.{IsSoundControl, Suits}
-use Rattle.dc_sound.proofs.ControlSound.{firing_sound, latching_sound, slice_sound, waking_sound}
+use Rattle.dc_block_sound.specs.SoundControls.{IsSoundControl, Suits}
+use Rattle.dc_block_sound.proofs.ControlSound.{firing_sound, latching_sound, slice_sound, waking_sound}
 use Rattle.dc_kcb.specs.Readings.{disp_at}
 use Rattle.dc_kernel.specs.declared.drivers.Forward.{Forward}
 use Rattle.dc_kernel.specs.declared.drivers.Sliced.{Sliced}

@@ -3,7 +3,7 @@
 ghost use Rattle.std.specs.Prelude.{◌≡◌, ◌<◌, ◌-◌, ◌^◌, IsTrue, IfSome, length};
 ghost use Rattle.dc_base.specs.Words.{Each};
 ghost use Rattle.dc_base.specs.Named.{waits_on_channel};
-ghost use Rattle.dc_sound.specs.SoundControls.{IsSoundControl};
+ghost use Rattle.dc_block_sound.specs.SoundControls.{IsSoundControl};
 ghost use Rattle.dc_kernel.specs.Running.{IsTimely};
 
 use crate::worlds::{World, slice_in};

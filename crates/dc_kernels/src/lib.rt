@@ -8,10 +8,6 @@ mod benches;
 #[cfg(test)]
 mod images;
 #[cfg(test)]
-mod randoms;
-#[cfg(test)]
-mod stays;
-#[cfg(test)]
 mod tests;
 #[cfg(test)]
 mod wakes;

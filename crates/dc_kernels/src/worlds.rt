@@ -2,7 +2,7 @@
 
 ghost use Rattle.std.specs.Prelude.{◌≡◌, ◌<◌, ◌-◌, ◌^◌};
 ghost use Rattle.dc_base.specs.Words.{Each};
-ghost use Rattle.dc_sound.specs.SoundControls.{IsSoundControl};
+ghost use Rattle.dc_block_sound.specs.SoundControls.{IsSoundControl};
 ghost use Rattle.dc_kernel.specs.Running.{IsTimely};
 ghost use Rattle.dc_kernel.specs.Forwards.{IsSomeForward};
 ghost use Rattle.dc_kernel.specs.Outsides.{Fits, HasRoom};

@@ -12,7 +12,7 @@ use Rattle.dc_base.specs.Outcomes.{has, share_blocks}
 use Rattle.dc_base.specs.States.{Core, Block, Member}
 use Rattle.dc_base.specs.Steps.{can_run, is_runnable}
 use Rattle.dc_base.specs.Turns.{Looked}
-use Rattle.dc_sound.proofs.Elements.{same_is}
+use Rattle.dc_block_sound.proofs.Elements.{same_is}
 use Rattle.dc_machine.specs.InHand.{AreInHand, IsInHand, looked_in}
 use Rattle.dc_machine.specs.Nexts.{first_runnable}
 

@@ -11,7 +11,7 @@ use Rattle.dc_base.specs.Sound.{IsSound}
 use Rattle.dc_base.specs.States.{State, Core, Block}
 use Rattle.dc_base.specs.Turns.{Turn, ends, look_block, look_line, not_enabled, outcome}
 use Rattle.dc_base.specs.Words.{is_number}
-use Rattle.dc_sound.proofs.Elements.{same_is, same_some}
+use Rattle.dc_block_sound.proofs.Elements.{same_is, same_some}
 
 off_by : (s : State) (v : Option Version) (t : Turn) → is_some v ≡ false → outcome s (if_on v t) ≡ not_enabled reason.CoreOff
 off_by s None t e = refl

@@ -5,7 +5,7 @@ use Rattle.std.specs.List.{swap_remove, SwappedAt}
 use Rattle.std.proofs.Math.Seq.{get_or-append_seam}
 use Rattle.std.proofs.lemmas.List.{length-set, length-take-le, get_or-take, get_or-set_same, get_or-set_other, get_or_append_left, ext_get_or}
 use Rattle.std.proofs.lemmas.Option.{slice_get-get_or}
-use Rattle.dc_sound.proofs.Elements.{same_or_not}
+use Rattle.dc_block_sound.proofs.Elements.{same_or_not}
 use Rattle.dc_machine.specs.Slots.{lifted, with_at}
 
 module _ {T : Type 0} where

@@ -26,10 +26,10 @@ use Rattle.dc_kernel.specs.Forwards.{halfway_in, need_in}
 use Rattle.dc_kernel.specs.Running.{Running, time_in}
 use Rattle.dc_objects.specs.Blocks.{running_of}
 use Rattle.dc_sound.proofs.BlockNaming.{keeps_names, held_names}
-use Rattle.dc_sound.proofs.Calls.{CallFits}
-use Rattle.dc_sound.proofs.ControlSteps.{Steps, kept_by, last, readied}
-use Rattle.dc_sound.proofs.Ready.{fire_owes, ready_owes, owes_ready, picked_in}
-use Rattle.dc_sound.proofs.Walks.{fire_steps, half_steps, is_ready_at, HalfFits}
+use Rattle.dc_block_sound.proofs.Calls.{CallFits}
+use Rattle.dc_block_sound.proofs.ControlSteps.{Steps, kept_by, last, readied}
+use Rattle.dc_block_sound.proofs.Ready.{fire_owes, ready_owes, owes_ready, picked_in}
+use Rattle.dc_block_sound.proofs.Walks.{fire_steps, half_steps, is_ready_at, HalfFits}
 use Rattle.dc_machine.specs.Lifts.{HasNeeded, SameKind}
 
 abbrev no_claim : ℕ → Type 0

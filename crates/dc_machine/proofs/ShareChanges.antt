@@ -12,7 +12,7 @@ use Rattle.dc_base.specs.Placed.{count_in}
 use Rattle.dc_base.specs.States.{State, Block, Member}
 use Rattle.dc_base.specs.Turns.{looked_at}
 use Rattle.dc_objects.specs.Blocks.{IsTimed}
-use Rattle.dc_sound.proofs.Elements.{same_is, set_other}
+use Rattle.dc_block_sound.proofs.Elements.{same_is, set_other}
 use Rattle.dc_machine.specs.Handing.{changed_all}
 
 -- a share that lists each block once

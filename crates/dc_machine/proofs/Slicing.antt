@@ -1,8 +1,10 @@
 -- A slice, with the object that its call needs lifted out, is the slice of the core's turn.
-use Rattle.std.proofs.Common.{◌≡◌, ℕ, ◌+◌, ◌<◌, List, [], ◌∷◌, Option, Some, None, refl, sym, ap, ◌∙◌, subst, arith, length, get_or}
-use Rattle.std.specs.Prelude.{slice_get, slice_set, ◌-◌, ◌^◌}
+use Rattle.dc_base.specs.declared.numbers.LineNo.{LineNo}
+use Rattle.std.proofs.lemmas.Bool.Decides.{nat_tests}
+use Rattle.std.proofs.Common.{◌≡◌, ℕ, ◌+◌, ◌<◌, List, [], ◌∷◌, Option, Some, None, refl, sym, ap, ◌∙◌, subst, arith, length, get_or, Bool, true, false}
+use Rattle.std.specs.Prelude.{slice_get, slice_set, ◌-◌, ◌^◌, nat_lt, if◌then◌else◌}
 use Rattle.std.specs.Option.{option_map}
-use Rattle.std.proofs.lemmas.Option.{none-some, same_Some, get_or_from_slice_get, slice_get_within}
+use Rattle.std.proofs.lemmas.Option.{none-some, same_Some, get_or_from_slice_get, slice_get_within, slice_get_past}
 use Rattle.dc_base.specs.declared.actions.Actor.TheVariants as actor
 use Rattle.dc_base.specs.declared.calls.Need.{Need}
 use Rattle.dc_base.specs.declared.calls.Need.TheVariants as needs
@@ -20,7 +22,7 @@ use Rattle.dc_base.specs.Placed.{IsOn}
 use Rattle.dc_base.specs.Serving.{Outside, nothing_outside, console_outside, channel_outside, line_outside}
 use Rattle.dc_base.specs.Slices.{Halfway, halfway, need_of, slice_of, slice_end, without_ready}
 use Rattle.dc_base.specs.Sound.{IsSound}
-use Rattle.dc_base.specs.States.{State, Core, Block, Mailbox, Script, Whereabouts, rest, on, with_control}
+use Rattle.dc_base.specs.States.{State, Core, Block, Mailbox, Script, Whereabouts, rest, on, with_control, Settings}
 use Rattle.dc_base.specs.Steps.{as_console, as_channel, as_line, core_after_slice, outside_change, slice_turn}
 use Rattle.dc_base.specs.Turns.{did, outcome}
 use Rattle.dc_base.specs.Words.{bind}
@@ -32,7 +34,7 @@ use Rattle.dc_kernel.specs.Done.{Done, done, done_by, done_picked, done_empty, t
 use Rattle.dc_kernel.specs.Forwards.{IsForward, fired, picked, halfway_in, need_in, number_of}
 use Rattle.dc_kernel.specs.Outsides.{outside_seen, HasRoom}
 use Rattle.dc_kernel.specs.Running.{Running, on_core, time_in}
-use Rattle.dc_kernel.specs.Turned.{look_in, outcome_by, done_outcome}
+use Rattle.dc_kernel.specs.Turned.{look_in, look_here, outcome_by, done_outcome}
 use Rattle.dc_kernel.proofs.SliceTurns.{slice_done}
 use Rattle.dc_objects.specs.Blocks.{running_of}
 use Rattle.dc_objects.specs.declared.whole.Objects.{Objects}
@@ -116,12 +118,12 @@ module _ (s : State) (c : CoreNo) (k : Core) (b : BlockNo) (x : Block) (n : Need
   did_by None free = ap (λ more. did (core_becomes c.0 (core_after_slice k b.0 (k.clock + sl.advance)) ∷ block_becomes b.0 (with_control control x) ∷ more) (record { actor = actor.Core c; what = what_by b sl (k.clock + sl.advance) None })) (sym (no_change b.0 n out (free refl)))
   did_by (Some d) free = refl
 
-  pub slice_did : IsOn c.0 x.whereabouts → n ≡ need_in (halfway_in k.settings.quantum k.clock (running_of x)) → Some (told control sl out) ≡ done (look_in s b.0) k.settings.quantum c.0 b.0 k.clock (running_of x) →
+  pub slice_did : IsOn c.0 x.whereabouts → n ≡ need_in (halfway_in k.settings.quantum k.clock (running_of x)) → Some (told control sl out) ≡ done (look_here k.settings s b.0) k.settings.quantum c.0 b.0 k.clock (running_of x) →
       outcome s (slice_turn c.0 k b.0 (Some x)) ≡ did changes (record { actor = actor.Core c; what = slice_what b sl (k.clock + sl.advance) })
   slice_did here need t =
       let r : Running = running_of x in
       let is : x ≡ on_core c.0 r = on_core_is c.0 x here in
-      let free : sl.disp ≡ None → n ≡ needs.Nothing = λ h. need ∙ done_free (look_in s b.0) refl k.settings.quantum c.0 b.0 k.clock r (told control sl out) t (ap number_of h) in
+      let free : sl.disp ≡ None → n ≡ needs.Nothing = λ h. need ∙ done_free (look_here k.settings s b.0) refl k.settings.quantum c.0 b.0 k.clock r (told control sl out) t (ap number_of h) in
       ap (λ (y : Block). outcome s (slice_turn c.0 k b.0 (Some y))) is ∙ (slice_done s c.0 k b.0 r ∙ (ap (λ o. done_outcome c.0 k b.0 (on_core c.0 r) (need_in (halfway_in k.settings.quantum k.clock r)) o) (sym t)
       ∙ (ap (λ (m : Need). outcome_by c.0 k b.0 (on_core c.0 r) m (told control sl out) (number_of sl.disp)) (sym need) ∙ ap (λ (y : Block). outcome_by c.0 k b.0 y n (told control sl out) (number_of sl.disp)) (sym is))))
       ∙ did_by sl.disp free
@@ -200,6 +202,20 @@ module _ (s : State) (p : IsSound s) (b : ℕ) where
   has_room n (held.Line w) e = tt
   has_room n (held.Console ws) e = tt
 
+-- a line that is not looked at is not there
+module _ (s : State) (p : IsSound s) (c : ℕ) (k : Core) (at : slice_get s.cores c ≡ Some k) (b : ℕ) where
+  line_here : (l : LineNo) (t : Bool) → nat_lt l.0 k.settings.lines ≡ t → look_in s b (if t then needs.Line l else needs.Nothing) ≡ as_line (slice_get s.lines l.0)
+  line_here l true q = refl
+  line_here l false q =
+      let long = p.settled.lines ∙ ap (λ (t : Settings). t.lines) (sym (p.settled.same c k at)) in
+      sym (ap as_line (slice_get_past s.lines l.0 (grind (arith, nat_tests, q, long))))
+
+  pub looked_here : (n : Need) → look_here k.settings s b n ≡ look_in s b n
+  looked_here needs.Nothing = refl
+  looked_here needs.Console = refl
+  looked_here (needs.Channel x) = refl
+  looked_here (needs.Line l) = line_here l (nat_lt l.0 k.settings.lines) refl
+
 -- an item of a list that is the same
 pub item_is : {A : Type 0} (xs ys : List A) (i : ℕ) (x v : A) → ys ≡ xs → slice_get xs i ≡ Some x → v ≡ get_or ys i v → v ≡ x
 item_is {A} xs ys i x v q at e = e ∙ (ap (λ (zs : List A). get_or zs i v) q ∙ get_or_from_slice_get xs i x v at)
@@ -208,12 +224,12 @@ pub item_within : {A : Type 0} (xs ys : List A) (i : ℕ) (x : A) → ys ≡ xs 
 item_within {A} xs ys i x q at = subst (λ (zs : List A). i < length zs) (sym q) (slice_get_within xs i x at)
 
 -- what a slice did with the object that was lifted out, it does with the one that is looked at
-module _ (s : State) (c : ℕ) (k : Core) (b : ℕ) (n : Need) (o : Outside) (r : Running) (t : Done) (need : n ≡ need_in (halfway_in k.settings.quantum k.clock r)) (looked : o ≡ look_in s b n) (did : Some t ≡ done (λ (m : Need). o) k.settings.quantum c b k.clock r) where
-  pub looked_done : Some t ≡ done (look_in s b) k.settings.quantum c b k.clock r
-  looked_done = did ∙ done_same (λ (m : Need). o) (look_in s b) k.settings.quantum c b k.clock r (looked ∙ ap (look_in s b) need)
+module _ (s : State) (c : ℕ) (k : Core) (b : ℕ) (n : Need) (o : Outside) (r : Running) (t : Done) (need : n ≡ need_in (halfway_in k.settings.quantum k.clock r)) (looked : o ≡ look_here k.settings s b n) (did : Some t ≡ done (λ (m : Need). o) k.settings.quantum c b k.clock r) where
+  pub looked_done : Some t ≡ done (look_here k.settings s b) k.settings.quantum c b k.clock r
+  looked_done = did ∙ done_same (λ (m : Need). o) (look_here k.settings s b) k.settings.quantum c b k.clock r (looked ∙ ap (look_here k.settings s b) need)
 
-  pub kind_kept : SameKind (look_in s b n) t.outside
-  kind_kept = subst (λ (m : Need). SameKind (look_in s b m) t.outside) (sym need) (done_kind (look_in s b) refl k.settings.quantum c b k.clock r t looked_done)
+  pub kind_kept : SameKind (look_here k.settings s b n) t.outside
+  kind_kept = subst (λ (m : Need). SameKind (look_here k.settings s b m) t.outside) (sym need) (done_kind (look_here k.settings s b) refl k.settings.quantum c b k.clock r t looked_done)
 
 pub forward_same : (q : ℕ) (x y : Block) (clock now : ℕ) (f : Forward) → clock ≡ now → y ≡ x → IsForward q now (running_of x) f → IsForward q clock (running_of y) f
 forward_same q x y clock now f e g h = subst (λ (z : Block). IsForward q clock (running_of z) f) (sym g) (subst (λ n. IsForward q n (running_of x) f) (sym e) h)
@@ -242,7 +258,7 @@ held_slice c k k' b x x' n o sl out e here need t core block entry = record {
 }
 
 -- a slice of objects in their places
-pub sliced : (s new : State) (c : CoreNo) (k k' : Core) (b : BlockNo) (x x' : Block) (n : Need) (o out : Outside) (e : Entry) → slice_get s.blocks b.0 ≡ Some x → o ≡ look_in s b.0 n → IsSlice c.0 b.0 k k' x x' n o out e →
+pub sliced : (s new : State) (c : CoreNo) (k k' : Core) (b : BlockNo) (x x' : Block) (n : Need) (o out : Outside) (e : Entry) → slice_get s.blocks b.0 ≡ Some x → o ≡ look_here k.settings s b.0 n → IsSlice c.0 b.0 k k' x x' n o out e →
     IsAfter s new (slice_set s.cores c.0 k') (slice_set s.blocks b.0 x') (apply s (outside_change b.0 n out)) → Answers (stepped.Did e) s new (outcome s (slice_turn c.0 k b.0 (slice_get s.blocks b.0)))
 sliced s new c k k' b x x' n o out e found looked slice a =
     let whole : new ≡ apply s (core_becomes c.0 k' ∷ block_becomes b.0 x' ∷ outside_change b.0 n out) = after_is s new (slice_set s.cores c.0 k') (slice_set s.blocks b.0 x') n out b.0 a in

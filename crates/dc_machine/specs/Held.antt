@@ -7,10 +7,10 @@ use Rattle.dc_base.specs.Serving.{Outside}
 use Rattle.dc_base.specs.States.{State, Core, Block}
 use Rattle.dc_base.specs.Steps.{outside_change, slice_turn}
 use Rattle.dc_base.specs.Turns.{did, outcome}
-use Rattle.dc_kernel.specs.Turned.{look_in}
+use Rattle.dc_kernel.specs.Turned.{look_here}
 use Rattle.dc_machine.specs.Lifts.{SameKind}
 
 -- a slice of block b, whose call needs n, took the core, the block and the object outside from the first to the second
 pub record IsSlice (c b : ℕ) (k k' : Core) (x x' : Block) (n : Need) (o o' : Outside) (e : Entry) : Type 0 where
-  pub turn : (s : State) → o ≡ look_in s b n → outcome s (slice_turn c k b (Some x)) ≡ did (core_becomes c k' ∷ block_becomes b x' ∷ outside_change b n o') e
-  pub kind : (s : State) → o ≡ look_in s b n → SameKind (look_in s b n) o'
+  pub turn : (s : State) → o ≡ look_here k.settings s b n → outcome s (slice_turn c k b (Some x)) ≡ did (core_becomes c k' ∷ block_becomes b x' ∷ outside_change b n o') e
+  pub kind : (s : State) → o ≡ look_here k.settings s b n → SameKind (look_here k.settings s b n) o'

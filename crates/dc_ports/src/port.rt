@@ -1,5 +1,5 @@
 ghost use Rattle.std.specs.Prelude.{◌≡◌, ◌<◌, ◌≤◌, ◌↔◌, [], ◌∷◌, ◌++◌, length, slice_get, IsTrue, IsOk, OnOk, OnErr, IsNone, IfSome, IfNone};
-ghost use Rattle.dc_base.specs.Ports.{port_room};
+ghost use Rattle.dc_base.specs.Limits.{port_room};
 
 use arrayvec::ArrayVec;
 use dc_base::messages::Message;

@@ -32,7 +32,7 @@ use Rattle.dc_base.specs.States.{State, Core, Block, Mailbox, order, Whereabouts
 use Rattle.dc_base.specs.Turns.{not_enabled, spent, Turn, ends, look_block, look_line}
 use Rattle.dc_base.specs.Wakes.{after_wake, wake_sender, wake_receiver, wake_waiting, wake_in, wake_turn}
 use Rattle.dc_base.specs.Words.{is_number}
-use Rattle.dc_sound.proofs.Elements.{same_some}
+use Rattle.dc_block_sound.proofs.Elements.{same_some}
 use Rattle.dc_sound.proofs.Times.{clock_of-at}
 use Rattle.dc_ranges.proofs.Bounds.{core_small, block_small, line_small, dispatcher_small, share_small, raised_small, clock_small, time_small}
 use Rattle.dc_ranges.proofs.Shown.{Shows, Comes, small, timed, core_shown, by_if, by_version, by_outcome}

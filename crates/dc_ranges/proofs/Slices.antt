@@ -25,9 +25,9 @@ use Rattle.dc_base.specs.Slices.{Halfway, stopped, stands, after_served, after_a
 use Rattle.dc_base.specs.States.{State}
 use Rattle.dc_base.specs.Timers.{due_timer}
 use Rattle.dc_sound.proofs.Advances.{ran_of}
-use Rattle.dc_sound.proofs.Calls.{CallFits}
-use Rattle.dc_sound.proofs.PlainMoves.{Acts, acts}
-use Rattle.dc_sound.proofs.Walks.{HalfFits}
+use Rattle.dc_block_sound.proofs.Calls.{CallFits}
+use Rattle.dc_block_sound.proofs.PlainMoves.{Acts, acts}
+use Rattle.dc_block_sound.proofs.Walks.{HalfFits}
 
 -- at most as many timers fire as there are
 

@@ -22,10 +22,11 @@ use Rattle.dc_base.specs.Steps.{with_clock, core_after_slice, look_outside, outs
 use Rattle.dc_base.specs.Turns.{spent, Looked, Turn, ends, look_blocks, looked_at}
 use Rattle.dc_sound.proofs.Advances.{half_ran, end_advance}
 use Rattle.dc_sound.proofs.Budgets.{used-set}
-use Rattle.dc_sound.proofs.Elements.{same_is, set_here}
-use Rattle.dc_sound.proofs.EntryKinds.{HasTurn, IsSlice, is_idle, outside_at, after_timers}
+use Rattle.dc_block_sound.proofs.Elements.{same_is, set_here}
+use Rattle.dc_sound.proofs.EntryKinds.{HasTurn, IsSlice, is_idle, after_timers}
+use Rattle.dc_block_sound.proofs.OutsideAt.{outside_at}
 use Rattle.dc_sound.proofs.TimesKept.{clocked_kept}
-use Rattle.dc_sound.proofs.Walks.{slice_half}
+use Rattle.dc_sound.proofs.SliceWalks.{slice_half}
 use Rattle.dc_ranges.proofs.Bounds.{core_small, block_small, budget_most, clock_small}
 use Rattle.dc_ranges.proofs.Shown.{IsShown, Comes, small, timed, core_shown, by_if, by_version}
 use Rattle.dc_ranges.proofs.Slices.{fired_count, code_fired, half_facts, end_shown, end_ran}

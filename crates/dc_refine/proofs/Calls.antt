@@ -8,7 +8,8 @@ use Rattle.dc_base.specs.declared.instructions.Instr.TheVariants.{Out, Yield, Se
 use Rattle.dc_base.specs.declared.interrupts.Latch.{Latch}
 use Rattle.dc_base.specs.declared.dispatchers.Wait.TheVariants as wait
 use Rattle.dc_base.specs.declared.messages.Message.{Message}
-use Rattle.dc_base.specs.Ports.{latch_at, messages_in, port_room, ports_after_send}
+use Rattle.dc_base.specs.Limits.{port_room}
+use Rattle.dc_base.specs.Ports.{latch_at, messages_in, ports_after_send}
 use Rattle.dc_base.specs.Parts.{Parts, words_at}
 use Rattle.dc_base.specs.Kernel.{Call, faults, waits, makes, takes, prints, sends, receives, binds, gives, claims, call_of, with_end_and_frame, recv, take_latch, with_copy, with_next_place, number_in, first_in, length_in, cap_in, wait_call, arm_call, copy_call, retype_call, delete_call, revoke_call, bind_call, give_call, claim_call}
 use Rattle.dc_base.specs.Channels.{Ring, ring_after_send, ring_after_take}

@@ -21,7 +21,8 @@ use Rattle.dc_base.specs.declared.faults.TextKind.TheVariants.{BadNumber}
 use Rattle.dc_base.specs.declared.faults.TextFault.{TextFault}
 use Rattle.dc_base.specs.declared.faults.TextFault.TheVariants.{TooLong, Bad}
 use Rattle.dc_base.specs.Results.{◌>>=◌, fault_as}
-use Rattle.dc_base.specs.TextWords.{longest_file, lines_of, number_of, is_word}
+use Rattle.dc_base.specs.Limits.{longest_file}
+use Rattle.dc_base.specs.TextWords.{lines_of, number_of, is_word}
 use Rattle.dc_base.specs.ScriptText.{Numbered, counted_from, lines_read, text_read, no_words, one_word, two_words, three_words, if_within, number_within, if_below, number_below, read_core, read_block, read_line, read_disp, read_version, command_of, script_line, core_action_line, core_words, schedule_line, script_of, schedule_of}
 use Rattle.dc_base.specs.States.{Settings}
 use Rattle.dc_base.specs.Words.{Each}

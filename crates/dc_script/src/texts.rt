@@ -1,7 +1,8 @@
 //! Texts are read line by line.
 
 ghost use Rattle.std.specs.Prelude.{◌≡◌, ◌≤◌, ◌<◌, ◌^◌, ◌∷◌, ◌⊎◌, All, length, IfOk, OnOk, IfErr};
-ghost use Rattle.dc_base.specs.TextWords.{longest_file, lines_of};
+ghost use Rattle.dc_base.specs.Limits.{longest_file};
+ghost use Rattle.dc_base.specs.TextWords.{lines_of};
 ghost use Rattle.dc_base.specs.ScriptText.{text_read, counted_from, lines_read};
 ghost use Rattle.dc_text.specs.Places.{texts_at, IsPlaceIn};
 ghost use Rattle.dc_script.specs.Texts.{is_comment, counted_words, AddsLine};

@@ -15,10 +15,11 @@ use Rattle.dc_base.specs.ScriptForm.{IsInForm}
 use Rattle.dc_base.specs.States.{State}
 use Rattle.dc_sound.proofs.BlockNaming.{keeps_names}
 use Rattle.dc_sound.proofs.BlockWords.{PendingShort, ShapeAndNames, keeps_words}
-use Rattle.dc_sound.proofs.CapForms.{keeps_caps}
-use Rattle.dc_sound.proofs.ControlKept.{StepKeeps, kept_alone, kept_under}
+use Rattle.dc_block_sound.proofs.CapForms.{keeps_caps}
+use Rattle.dc_sound.proofs.ControlKept.{kept_alone, kept_under}
+use Rattle.dc_block_sound.proofs.ControlSteps.{StepKeeps}
 use Rattle.dc_sound.proofs.EntryKinds.{Kind}
-use Rattle.dc_sound.proofs.Forms.{keeps_shape, keeps_dispatchers, keeps_ports, keeps_timers}
+use Rattle.dc_block_sound.proofs.Forms.{keeps_shape, keeps_dispatchers, keeps_ports, keeps_timers}
 
 -- the pending numbers have 32 bits, since a script has at most 4,096 lines
 pub pending_is_short : (s : State) → KeepsLines s → IsCounted s → IsInForm s → IsSettled s → PendingShort s

@@ -20,7 +20,7 @@ use Rattle.dc_base.specs.States.{State, Core, Block, Member, Whereabouts, rest, 
 use Rattle.dc_base.specs.Turns.{looked_at}
 use Rattle.dc_sound.proofs.EntryKinds.{IsStart, IsStop, IsReplace, IsAdopt, IsRelease}
 use Rattle.dc_sound.proofs.BootStays.{core_of_block}
-use Rattle.dc_sound.proofs.Elements.{same_is, is_same, same_some, all_cores, AllCase, was_listed, not_listed, block_case}
+use Rattle.dc_block_sound.proofs.Elements.{same_is, is_same, same_some, all_cores, AllCase, was_listed, not_listed, block_case}
 use Rattle.dc_sound.proofs.Lengths.{same_lengths}
 use Rattle.dc_sound.proofs.ParkedBlocks.{parked_left, home_left, unless}
 use Rattle.dc_sound.proofs.Registry.{home_middle, parked_middle}

@@ -6,16 +6,9 @@ use Rattle.dc_base.specs.ControlBlocks.{ControlBlock}
 use Rattle.dc_base.specs.States.{State, time_on}
 use Rattle.dc_sound.proofs.EntryKinds.{Kind}
 use Rattle.dc_sound.proofs.ControlRules.{AllControls, ControlLaws, controls_kept}
-use Rattle.dc_sound.proofs.ControlSteps.{Step, Steps, kept_along}
-use Rattle.dc_sound.proofs.Walks.{slice_steps, fire_steps, again_steps, latch_steps, HalfClaims}
-
--- each change keeps P
-abbrev pub StepKeeps : State → (ControlBlock → Type 0) → Type 1
-StepKeeps s P = (d : ℕ) (C : ℕ → Type 0) (x y : ControlBlock) → Step s d C x y → P x → P y
-
--- each change keeps P where Q holds
-abbrev pub StepKeepsUnder : State → (ControlBlock → Type 0) → (ControlBlock → Type 0) → Type 1
-StepKeepsUnder s Q P = (d : ℕ) (C : ℕ → Type 0) (x y : ControlBlock) → Step s d C x y → Q x → P x → P y
+use Rattle.dc_block_sound.proofs.ControlSteps.{Steps, kept_along, StepKeeps, StepKeepsUnder}
+use Rattle.dc_block_sound.proofs.Walks.{fire_steps, again_steps, latch_steps, HalfClaims}
+use Rattle.dc_sound.proofs.SliceWalks.{slice_steps}
 
 module _ (s : State) (chs : List Change) (e : Entry) (Q P : ControlBlock → Type 0) (q : StepKeeps s Q) (p : StepKeepsUnder s Q P) (all : AllControls (λ b. Q) s) where
   along : (d : ℕ) (C : ℕ → Type 0) (x y : ControlBlock) → Steps s d C x y → Q x → P x → P y

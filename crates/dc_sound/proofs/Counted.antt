@@ -22,7 +22,7 @@ use Rattle.dc_base.specs.States.{State, Core, Block, with_control, time_on}
 use Rattle.dc_base.specs.Words.{Each}
 use Rattle.dc_sound.proofs.EntryKinds.{IsSlice, IsSliceNone, IsIntake, IsRaise, Before, first_post, next_post, got_by, sliced_of, slice_changes, after_timers, Kind, is_slice, is_slice_none, is_idle, is_wake, is_intake, is_start, is_stop, is_replace, is_adopt, is_release, is_post, is_done, is_refused, is_route, is_awaited, is_raise}
 use Rattle.dc_sound.proofs.Budgets.{budget_grows, slice_spends}
-use Rattle.dc_sound.proofs.Elements.{set_case, SetCase, set_now, set_before}
+use Rattle.dc_block_sound.proofs.Elements.{set_case, SetCase, set_now, set_before}
 use Rattle.dc_sound.proofs.Latches.{held, held_by, NoMore, AnyContext, latch_laws, intake_given, intake_other, latches-set, sums_fall}
 use Rattle.dc_sound.proofs.Leaves.{Leaves, fine_kind}
 use Rattle.dc_sound.proofs.Lengths.{same_lengths}

@@ -20,8 +20,8 @@ use Rattle.dc_base.specs.States.{State, Core, Block, on, time_on, time_of, clock
 use Rattle.dc_base.specs.Words.{Each}
 use Rattle.dc_sound.proofs.EntryKinds.{HasTurn, IsSlice, IsSliceNone, got_by, sliced_of, after_timers, Kind}
 use Rattle.dc_sound.proofs.ControlRules.{ControlLaws, controls_kept}
-use Rattle.dc_sound.proofs.Elements.{same_some}
-use Rattle.dc_sound.proofs.PlainMoves.{Going, one_set, two_set, jumped, passed, stored, Acts, acts, index_word}
+use Rattle.dc_block_sound.proofs.Elements.{same_some}
+use Rattle.dc_block_sound.proofs.PlainMoves.{Going, one_set, two_set, jumped, passed, stored, Acts, acts, index_word}
 use Rattle.dc_sound.proofs.Rules.{each-set}
 use Rattle.dc_sound.proofs.TimerWalk.{TimerLaws, ended, end_is, slice_has, fired_has}
 use Rattle.dc_sound.proofs.Times.{clock_of-at}

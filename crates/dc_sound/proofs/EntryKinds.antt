@@ -1,5 +1,5 @@
 -- What an entry of each kind is: what it found, and what became of it.
-use Rattle.std.proofs.Common.{◌≡◌, ◌⊎◌, inl, inr, ℕ, zero, suc, ◌+◌, List, [], ◌∷◌, ◌++◌, Bool, true, false, Option, Some, None, refl, sym, ap, ◌∙◌, subst, map, arith}
+use Rattle.std.proofs.Common.{◌≡◌, ℕ, zero, suc, ◌+◌, List, [], ◌∷◌, ◌++◌, Bool, true, false, Option, Some, None, refl, sym, ap, ◌∙◌, subst, map, arith}
 use Rattle.std.specs.Prelude.{slice_get, if◌then◌else◌, find, nat_lt, nat_le, ◌==◌, ◌||◌, length, ℤ, is_some}
 use Rattle.dc_base.specs.declared.calls.Need.{Need}
 use Rattle.dc_base.specs.declared.calls.Need.TheVariants as needs
@@ -44,36 +44,15 @@ use Rattle.dc_base.specs.Policies.{pick}
 use Rattle.dc_base.specs.Ports.{latch_at, how_latched}
 use Rattle.dc_base.specs.Raises.{raise_on, raise_line, raise_turn, first_unbegun}
 use Rattle.dc_base.specs.Script.{next_raise}
-use Rattle.dc_base.specs.Serving.{Outside, nothing_outside}
+use Rattle.dc_base.specs.Serving.{Outside}
 use Rattle.dc_base.specs.Slices.{Sliced, Halfway, halfway, need_of, slice_end, without_ready}
-use Rattle.dc_base.specs.States.{State, Settings, Core, Block, with_control, Member, Mailbox, empty, order, ack, Script, Whereabouts, rest, on, time_on, time_at, place_on}
-use Rattle.dc_base.specs.Steps.{with_clock, core_after_slice, as_console, as_channel, as_line, look_outside, outside_change, slice_outcome, finish_slice, slice_picked, slice_from, slice_turn, next_due, idle_outcome, step_on, step_turn, is_runnable}
+use Rattle.dc_base.specs.States.{State, Core, Block, with_control, Member, Mailbox, empty, order, ack, Script, Whereabouts, rest, on, time_on, time_at, place_on}
+use Rattle.dc_base.specs.Steps.{with_clock, core_after_slice, look_outside, outside_change, slice_outcome, finish_slice, slice_picked, slice_from, slice_turn, next_due, idle_outcome, step_on, step_turn, is_runnable}
 use Rattle.dc_base.specs.Turns.{Outcome, did, not_enabled, spent, Looked, Turn, ends, look_blocks, look_block, look_line, looked_at, outcome}
 use Rattle.dc_base.specs.Wakes.{ready_again, after_wake, wake_sender, wake_receiver, wake_waiting, wake_in, wake_turn}
 use Rattle.dc_base.specs.Words.{is_number}
 use Rattle.dc_base.specs.Boot as boot
-
--- the object outside block b that a call needs
-abbrev pub outside_at : State → ℕ → Need → Outside
-outside_at s b needs.Nothing = nothing_outside
-outside_at s b needs.Console = as_console (slice_get s.consoles b)
-outside_at s b (needs.Channel x) = as_channel (slice_get s.channels x.0)
-outside_at s b (needs.Line l) = as_line (slice_get s.lines l.0)
-
--- a line that does not exist is not needed
-pub here_or_nothing : (t : Settings) (n : Need) → (need_here t n ≡ n) ⊎ (need_here t n ≡ needs.Nothing)
-here_or_nothing t needs.Nothing = inl refl
-here_or_nothing t needs.Console = inl refl
-here_or_nothing t (needs.Channel x) = inl refl
-here_or_nothing t (needs.Line l) = by_test (nat_lt l.0 t.lines)
-  where
-    by_test : (test : Bool) → ((if test then needs.Line l else needs.Nothing) ≡ needs.Line l) ⊎ ((if test then needs.Line l else needs.Nothing) ≡ needs.Nothing)
-    by_test true = inl refl
-    by_test false = inr refl
-
--- what the call gets is the object that it needs, or nothing
-pub here_or_none : (t : Settings) (s : State) (b : ℕ) (n : Need) → (outside_at s b (need_here t n) ≡ outside_at s b n) ⊎ (outside_at s b (need_here t n) ≡ nothing_outside)
-here_or_none t s b n = elim (here_or_nothing t n) [ inl same ↦ inl (ap (outside_at s b) same) | inr none ↦ inr (ap (outside_at s b) none) ]
+use Rattle.dc_block_sound.proofs.OutsideAt.{outside_at}
 
 -- a control block after its due timers fired, on a core whose clock stands so, at this offset
 abbrev pub after_timers : ℕ → ℤ → ControlBlock → ControlBlock

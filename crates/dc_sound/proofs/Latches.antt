@@ -14,7 +14,7 @@ use Rattle.dc_base.specs.Ports.{signal_after, signals_after, latch_at, how_latch
 use Rattle.dc_base.specs.Report.{is_latch_of, latches_of}
 use Rattle.dc_base.specs.States.{Block}
 use Rattle.dc_base.specs.Words.{change}
-use Rattle.dc_sound.proofs.Elements.{other_is}
+use Rattle.dc_block_sound.proofs.Elements.{other_is}
 use Rattle.dc_sound.proofs.TimerWalk.{TimerLaws}
 
 -- the latches of a line among signals

@@ -22,17 +22,19 @@ use Rattle.dc_base.specs.Serving.{need, Outside, line_outside, serve, serve_clai
 use Rattle.dc_base.specs.Slices.{Halfway, stopped, stands, after_served, slice_end, due_after, Sliced, need_of}
 use Rattle.dc_base.specs.States.{State, Core, Block, with_control, time_on}
 use Rattle.dc_base.specs.Steps.{as_line, outside_change, core_after_slice}
-use Rattle.dc_sound.proofs.CapForms.{keeps_caps, Limited}
-use Rattle.dc_sound.proofs.ControlSteps.{Steps, kept_along}
-use Rattle.dc_sound.proofs.Elements.{same_is, same_some}
-use Rattle.dc_sound.proofs.EntryKinds.{Kind, Before, first_post, next_post, outside_at, here_or_none, slice_changes, sliced_of, is_slice, is_slice_none, is_idle, is_wake, is_intake, is_start, is_stop, is_replace, is_adopt, is_release, is_post, is_done, is_refused, is_route, is_awaited, is_raise}
-use Rattle.dc_sound.proofs.Forms.{keeps_shape}
-use Rattle.dc_sound.proofs.LineCaps.{LinesIn, lines_of, are_lines, lines_along, line_gone, none_of_line}
+use Rattle.dc_block_sound.proofs.CapForms.{keeps_caps, Limited}
+use Rattle.dc_block_sound.proofs.ControlSteps.{Steps, kept_along}
+use Rattle.dc_block_sound.proofs.Elements.{same_is, same_some}
+use Rattle.dc_sound.proofs.EntryKinds.{Kind, Before, first_post, next_post, slice_changes, sliced_of, is_slice, is_slice_none, is_idle, is_wake, is_intake, is_start, is_stop, is_replace, is_adopt, is_release, is_post, is_done, is_refused, is_route, is_awaited, is_raise}
+use Rattle.dc_block_sound.proofs.OutsideAt.{outside_at, here_or_none}
+use Rattle.dc_block_sound.proofs.Forms.{keeps_shape}
+use Rattle.dc_block_sound.proofs.LineCaps.{LinesIn, lines_of, are_lines, lines_along, line_gone, none_of_line}
 use Rattle.dc_sound.proofs.LinesKept.{Had, lines_rule, old_block, old_line, plain_kept, along, along_block, raised, taken_in, IsPlain, ended, changes_of, slice_plain, given_kept, claimed_kept}
 use Rattle.dc_sound.proofs.Outsides.{no_claim}
 use Rattle.dc_sound.proofs.Rules.{Fine, fine_append, fine_all}
-use Rattle.dc_sound.proofs.Seats.{EachCap, cap_holds}
-use Rattle.dc_sound.proofs.Walks.{HalfFits, HalfClaims, CallClaims, slice_half, slice_steps, slice_without, fire_steps, again_steps, latch_steps}
+use Rattle.dc_block_sound.proofs.Seats.{EachCap, cap_holds}
+use Rattle.dc_block_sound.proofs.Walks.{HalfFits, HalfClaims, CallClaims, fire_steps, again_steps, latch_steps}
+use Rattle.dc_sound.proofs.SliceWalks.{slice_steps, slice_half, slice_without}
 
 -- calls that give no line and claim none
 

@@ -14,13 +14,13 @@ use Rattle.dc_base.specs.Parts.{Parts}
 use Rattle.dc_base.specs.Slices.{Halfway, stopped, stands, need_of, slice_end}
 use Rattle.dc_base.specs.States.{State, Core, Block, with_control}
 use Rattle.dc_base.specs.Steps.{outside_change}
-use Rattle.dc_sound.proofs.ControlSteps.{Steps}
-use Rattle.dc_sound.proofs.Elements.{SetCase, set_now, set_before, set_case}
-use Rattle.dc_sound.proofs.EntryKinds.{outside_at}
-use Rattle.dc_sound.proofs.LineCaps.{AreLines, lines_of, are_lines, lines_along}
+use Rattle.dc_block_sound.proofs.ControlSteps.{Steps}
+use Rattle.dc_block_sound.proofs.Elements.{SetCase, set_now, set_before, set_case}
+use Rattle.dc_block_sound.proofs.OutsideAt.{outside_at}
+use Rattle.dc_block_sound.proofs.LineCaps.{AreLines, lines_of, are_lines, lines_along}
 use Rattle.dc_sound.proofs.Rules.{Rule, no_rule, Obeys, Fine, kept}
 use Rattle.dc_sound.proofs.SliceFacts.{HalfLaws, fine_slice}
-use Rattle.dc_sound.proofs.Walks.{HalfClaims, CallClaims}
+use Rattle.dc_block_sound.proofs.Walks.{HalfClaims, CallClaims}
 
 -- block b had a capability of the line
 abbrev pub Had : State → ℕ → ℕ → Type 0

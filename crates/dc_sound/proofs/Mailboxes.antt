@@ -15,7 +15,7 @@ use Rattle.dc_base.specs.Words.{Each, bind}
 use Rattle.dc_base.specs.Boot as boot
 use Rattle.dc_sound.proofs.EntryKinds.{HasOrder, IsPost, IsDone, Before, first_post, next_post, slice_changes, Kind, is_slice, is_slice_none, is_idle, is_wake, is_intake, is_start, is_stop, is_replace, is_adopt, is_release, is_post, is_done, is_refused, is_route, is_awaited, is_raise}
 use Rattle.dc_sound.proofs.Rules.{Rule, no_rule, Obeys, Fine, kept, fine_outside, fine_all}
-use Rattle.dc_sound.proofs.Elements.{same_is, other_is, SetCase, set_now, set_before, set_case}
+use Rattle.dc_block_sound.proofs.Elements.{same_is, other_is, SetCase, set_now, set_before, set_case}
 
 module _ (s : State) (chs : List Change) (e : Entry) (m : MailboxesFollow s) (begun : 0 < s.script.posts → IsSome (command_at s.script)) where
   abbrev last : Option (ℕ × Order)

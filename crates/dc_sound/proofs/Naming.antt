@@ -23,17 +23,18 @@ use Rattle.dc_base.specs.Named.{Names, WaitNames, StateNames, SourceNames, Block
 use Rattle.dc_base.specs.Slices.{Halfway, stopped, stands}
 use Rattle.dc_base.specs.States.{State, Block, time_on}
 use Rattle.dc_sound.proofs.BlockNaming.{keeps_names, held_names}
-use Rattle.dc_sound.proofs.Calls.{CallFits}
-use Rattle.dc_sound.proofs.ControlSteps.{Step, Steps, kept_by}
-use Rattle.dc_sound.proofs.Elements.{same_some}
+use Rattle.dc_block_sound.proofs.Calls.{CallFits}
+use Rattle.dc_block_sound.proofs.ControlSteps.{Step, Steps, kept_by}
+use Rattle.dc_block_sound.proofs.Elements.{same_some}
 use Rattle.dc_sound.proofs.EntryKinds.{Kind, IsRoute}
-use Rattle.dc_sound.proofs.Forms.{same_shape}
+use Rattle.dc_block_sound.proofs.Forms.{same_shape}
 use Rattle.dc_sound.proofs.Leaves.{Leaves, fine_kind}
 use Rattle.dc_sound.proofs.Lengths.{SameLengths, same_lengths}
 use Rattle.dc_sound.proofs.Outsides.{no_claim}
 use Rattle.dc_sound.proofs.Rules.{Rule, no_rule, Obeys, kept, block_stays}
 use Rattle.dc_sound.proofs.SliceFacts.{HalfLaws}
-use Rattle.dc_sound.proofs.Walks.{HalfFits, HalfClaims, slice_half, slice_steps, fire_steps, again_steps, latch_steps}
+use Rattle.dc_block_sound.proofs.Walks.{HalfFits, HalfClaims, fire_steps, again_steps, latch_steps}
+use Rattle.dc_sound.proofs.SliceWalks.{slice_steps, slice_half}
 
 -- a block has as many signals as it had
 abbrev pub SignalsAs : State → ℕ → ControlBlock → Type 0

@@ -16,14 +16,15 @@ use Rattle.dc_base.specs.States.{State}
 use Rattle.dc_base.proofs.EachLaws.{each-append}
 use Rattle.dc_sound.proofs.BlockParts.{keeps_both}
 use Rattle.dc_sound.proofs.BlockWords.{PendingShort, ShapeAndNames, keeps_words, read_message}
-use Rattle.dc_sound.proofs.Calls.{CallFits, IsRead, IsRegister}
-use Rattle.dc_sound.proofs.ControlSteps.{Steps, kept_along, kept_by}
+use Rattle.dc_block_sound.proofs.Calls.{CallFits, IsRead, IsRegister}
+use Rattle.dc_block_sound.proofs.ControlSteps.{Steps, kept_along, kept_by}
 use Rattle.dc_sound.proofs.EntryKinds.{Kind, IsSlice}
 use Rattle.dc_sound.proofs.Leaves.{Leaves, fine_kind}
-use Rattle.dc_sound.proofs.PlainMoves.{lt_true, index_word}
+use Rattle.dc_block_sound.proofs.PlainMoves.{lt_true, index_word}
 use Rattle.dc_sound.proofs.Rules.{Rule, no_rule, Obeys, kept}
 use Rattle.dc_sound.proofs.SliceFacts.{HalfLaws}
-use Rattle.dc_sound.proofs.Walks.{HalfFits, slice_half}
+use Rattle.dc_block_sound.proofs.Walks.{HalfFits}
+use Rattle.dc_sound.proofs.SliceWalks.{slice_half}
 
 -- a channel with one message more, and with one less
 

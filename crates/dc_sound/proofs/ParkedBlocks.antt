@@ -8,7 +8,7 @@ use Rattle.dc_base.specs.Outcomes.{share_without, has}
 use Rattle.dc_base.specs.Placed.{homes_in, parked_in}
 use Rattle.dc_base.specs.Progress.{parked_blocks, home_block}
 use Rattle.dc_base.specs.States.{Member}
-use Rattle.dc_sound.proofs.Elements.{same_is}
+use Rattle.dc_block_sound.proofs.Elements.{same_is}
 use Rattle.dc_sound.proofs.Registry.{home_none}
 
 -- ascending lists

@@ -13,7 +13,7 @@ use Rattle.dc_base.specs.States.{State, Core, Block, Whereabouts, rest, on}
 use Rattle.dc_sound.proofs.EntryKinds.{IsSlice, IsSliceNone, IsIdle, IsWake, IsIntake, IsPost, IsDone, IsRefused, IsRoute, IsAwaited, IsRaise, slice_changes, Before, first_post, next_post}
 use Rattle.dc_sound.proofs.Rules.{Rule, no_rule, Obeys, Fine, kept, fine_append, fine_outside, core_stays, block_stays}
 use Rattle.dc_sound.proofs.Shares.{has-last}
-use Rattle.dc_sound.proofs.Elements.{same_some, same_or_not, set_here, set_other}
+use Rattle.dc_block_sound.proofs.Elements.{same_some, same_or_not, set_here, set_other}
 
 -- as the core and the block were, as far as this part reads them
 pub record WasCore (s : State) (c : ℕ) (new : Core) : Type 0 where

@@ -15,7 +15,7 @@ use Rattle.dc_base.specs.States.{State, Core, Block, Member, Whereabouts, rest, 
 use Rattle.dc_base.specs.Turns.{looked_at}
 use Rattle.dc_sound.proofs.EntryKinds.{IsStart, IsStop, IsReplace, IsAdopt, IsRelease, Kind, is_slice, is_slice_none, is_idle, is_wake, is_intake, is_start, is_stop, is_replace, is_adopt, is_release, is_post, is_done, is_refused, is_route, is_awaited, is_raise}
 use Rattle.dc_sound.proofs.Rules.{block_stays}
-use Rattle.dc_sound.proofs.Elements.{same_is, is_same, same_some, set_here, set_other, SetCase, set_now, set_before, set_case, AllCase, was_listed, not_listed, all_cores, block_case}
+use Rattle.dc_block_sound.proofs.Elements.{same_is, is_same, same_some, set_here, set_other, SetCase, set_now, set_before, set_case, AllCase, was_listed, not_listed, all_cores, block_case}
 use Rattle.dc_sound.proofs.Shares.{has-without, has-stays}
 use Rattle.dc_sound.proofs.Placed.{placed_frame, by_slice, by_slice_none, by_idle, by_wake, by_intake, by_post, by_done, by_refused, by_route, by_awaited, by_raise, both_on, rests, under_on, listed_on, here_on}
 

@@ -22,7 +22,7 @@ use Rattle.dc_base.specs.States.{State, Core, Block, Whereabouts, rest, on, core
 use Rattle.dc_base.specs.Words.{bind, first_of, is_number, lists}
 use Rattle.dc_sound.proofs.BootOrders.{booted_is, booted_with, booted_on}
 use Rattle.dc_sound.proofs.BootStays.{core_of_block}
-use Rattle.dc_sound.proofs.Elements.{is_same, same_some, same_or_not, set_here, set_other}
+use Rattle.dc_block_sound.proofs.Elements.{is_same, same_some, same_or_not, set_here, set_other}
 use Rattle.dc_sound.proofs.ParkedBlocks.{parked_length, without_length, homes_none, home_in}
 use Rattle.dc_sound.proofs.Placed.{rests}
 

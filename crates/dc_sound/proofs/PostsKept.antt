@@ -17,7 +17,7 @@ use Rattle.dc_base.specs.States.{State, Core, Block, Member, Mailbox, empty, ord
 use Rattle.dc_base.specs.Steps.{core_after_slice}
 use Rattle.dc_sound.proofs.EntryKinds.{HasOrder, StandsAt, IsPost, sliced_of, slice_changes, Before, first_post, next_post, Kind, is_slice, is_slice_none, is_idle, is_wake, is_intake, is_start, is_stop, is_replace, is_adopt, is_release, is_post, is_done, is_refused, is_route, is_awaited, is_raise}
 use Rattle.dc_sound.proofs.CoresAfter.{post_cores}
-use Rattle.dc_sound.proofs.Elements.{SetCase, set_now, set_before, set_case, same_some}
+use Rattle.dc_block_sound.proofs.Elements.{SetCase, set_now, set_before, set_case, same_some}
 use Rattle.dc_sound.proofs.Placed.{WasBlock}
 use Rattle.dc_sound.proofs.Registered.{outside_same, all_same, holds_order, posted_is, last_is, orders_are, not_begun, posted_fits, post_mailboxes}
 use Rattle.dc_sound.proofs.Rules.{Rule, no_rule, Obeys, Fine, kept, fine_outside, block_stays}

@@ -27,7 +27,7 @@ use Rattle.dc_base.specs.Words.{bind}
 use Rattle.dc_sound.proofs.EntryKinds.{HasOrder, StandsAt, IsPost, IsDone, sliced_of, slice_changes, Before, first_post, next_post, Kind, is_slice, is_slice_none, is_idle, is_wake, is_intake, is_start, is_stop, is_replace, is_adopt, is_release, is_post, is_done, is_refused, is_route, is_awaited, is_raise}
 use Rattle.dc_sound.proofs.BootOrders.{start_boot, stop_boot, replace_boot, adopt_boot, release_boot}
 use Rattle.dc_sound.proofs.BootStays as stays
-use Rattle.dc_sound.proofs.Elements.{is_same, set_here}
+use Rattle.dc_block_sound.proofs.Elements.{is_same, set_here}
 use Rattle.dc_sound.proofs.Lengths.{same_lengths}
 use Rattle.dc_sound.proofs.PostedOrders.{PostFits, first_fits, next_fits}
 

@@ -13,7 +13,7 @@ use Rattle.dc_base.specs.States.{State, Core, Block, Member}
 use Rattle.dc_base.specs.Steps.{core_after_slice}
 use Rattle.dc_sound.proofs.EntryKinds.{Kind, IsAdopt}
 use Rattle.dc_sound.proofs.Rules.{Rule, no_rule, Obeys, kept}
-use Rattle.dc_sound.proofs.Elements.{same_some, is_same}
+use Rattle.dc_block_sound.proofs.Elements.{same_some, is_same}
 use Rattle.dc_sound.proofs.Shares.{count-last, sum_split}
 use Rattle.dc_sound.proofs.Placed.{rests}
 use Rattle.dc_sound.proofs.Leaves.{Leaves, fine_kind}

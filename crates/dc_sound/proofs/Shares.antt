@@ -7,7 +7,7 @@ use Rattle.std.proofs.lemmas.List.Folds.{list_any-append}
 use Rattle.std.proofs.Math.Bool.{or-true}
 use Rattle.dc_base.specs.Outcomes.{share_without, share_with_last, has}
 use Rattle.dc_base.specs.States.{Member}
-use Rattle.dc_sound.proofs.Elements.{is_same, not_same}
+use Rattle.dc_block_sound.proofs.Elements.{is_same, not_same}
 
 module _ {X : Type 0} (p q : X → Bool) where
   any_by : (x : X) (xs : List X) → (list_any p (filter (λ y. not (q y)) xs) || list_any p (filter q xs)) ≡ list_any p xs → (t : Bool) →

@@ -26,7 +26,7 @@ use Rattle.dc_base.specs.States.{State, Settings}
 use Rattle.dc_base.specs.Steps.{as_console, as_channel, as_line, outside_change}
 use Rattle.dc_base.specs.Timers.{due_timer}
 use Rattle.dc_base.specs.Words.{bind}
-use Rattle.dc_sound.proofs.EntryKinds.{outside_at, here_or_none}
+use Rattle.dc_block_sound.proofs.OutsideAt.{outside_at, here_or_none}
 use Rattle.dc_sound.proofs.Rules.{Rule, Obeys, Fine}
 
 -- a reading of a control block that firing, waking and running leave as it was

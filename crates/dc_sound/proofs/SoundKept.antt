@@ -25,7 +25,7 @@ use Rattle.dc_sound.proofs.NumbersKept.{numbers_kept}
 use Rattle.dc_sound.proofs.Outsides.{rings_kept, consoles_kept}
 use Rattle.dc_sound.proofs.PlacedOrders.{placed_kept}
 use Rattle.dc_sound.proofs.PostsKept.{posts_kept}
-use Rattle.dc_sound.proofs.Ready.{readiness_kept}
+use Rattle.dc_sound.proofs.Readiness.{readiness_kept}
 use Rattle.dc_sound.proofs.Registered.{registered_kept}
 use Rattle.dc_sound.proofs.Settled.{settled_kept}
 use Rattle.dc_sound.proofs.ShareCounts.{shares_kept}

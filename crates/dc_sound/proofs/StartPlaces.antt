@@ -18,9 +18,9 @@ use Rattle.dc_base.specs.Placed.{IsListed, IsOn, IsPlaced, IsShare, AreShares}
 use Rattle.dc_base.specs.Progress.{home_block, parked_blocks, booted_of, boot_of, IsRegistered}
 use Rattle.dc_base.specs.States.{State, Core, Block, Whereabouts, rest, core_in, clock_of, time_of, place_on, settings_of, home_members_from, core_started, cores_from, first_place, block_started, core_start}
 use Rattle.dc_base.specs.Valid.{IsOnAtStart, IsValid}
-use Rattle.dc_sound.proofs.Elements.{same_is, is_same, same_some}
-use Rattle.dc_sound.proofs.Seats.{map_there}
-use Rattle.dc_sound.proofs.StartLists.{first_core, first_core_there, is_home_of, home_there, there_home, members_none, members_once, members_home, members_parked, members_block, members_parked_blocks}
+use Rattle.dc_block_sound.proofs.Elements.{same_is, is_same, same_some}
+use Rattle.dc_block_sound.proofs.Seats.{map_there}
+use Rattle.dc_block_sound.proofs.StartLists.{first_core, first_core_there, is_home_of, home_there, there_home, members_none, members_once, members_home, members_parked, members_block, members_parked_blocks}
 
 -- a block whose home is this core, which is on
 record IsHome (cores : List CoreImage) (h : CoreNo) : Type 0 where

@@ -27,11 +27,11 @@ use Rattle.dc_base.specs.ScriptForm.{IsInForm}
 use Rattle.dc_base.specs.States.{State, Core, Block, Mailbox, empty, order, settings_of, block_started, idle_wire, core_start}
 use Rattle.dc_base.specs.Valid.{IsValid, IsValidScript, IsValidBlock, is_given_line}
 use Rattle.dc_base.proofs.EachLaws.{each_nil}
-use Rattle.dc_sound.proofs.Forms.{each_map}
+use Rattle.dc_block_sound.proofs.Forms.{each_map}
 use Rattle.dc_sound.proofs.ScriptLists.{next_found, next_is_next}
-use Rattle.dc_sound.proofs.Seats.{map_there}
-use Rattle.dc_sound.proofs.StartControls.{start_ready, start_states, start_shape, start_dispatchers, start_words, start_ports, start_timers, start_caps, start_names, line_given}
-use Rattle.dc_sound.proofs.StartLists.{replicate_there, first_core_there, length_cores}
+use Rattle.dc_block_sound.proofs.Seats.{map_there}
+use Rattle.dc_block_sound.proofs.StartControls.{start_ready, start_states, start_shape, start_dispatchers, start_words, start_ports, start_timers, start_caps, start_names, line_given}
+use Rattle.dc_block_sound.proofs.StartLists.{replicate_there, first_core_there, length_cores}
 
 -- no signal has a latch
 

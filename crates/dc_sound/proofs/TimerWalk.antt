@@ -22,7 +22,8 @@ use Rattle.dc_base.specs.Firing.{wake, wake_if, latch_in, after_firing, fire_if,
 use Rattle.dc_base.specs.Kernel.{Call, faults, waits, makes, takes, prints, sends, receives, binds, gives, claims, number_in, first_in, length_in, with_next_place, with_end_and_frame, recv, take_latch, wait_call, arm_call, copy_call, with_copy, retype_call, claim_call, with_timer, cap_in, call_of}
 use Rattle.dc_base.specs.Lines.{Wire, rights_over}
 use Rattle.dc_base.specs.Parts.{Parts, words_at}
-use Rattle.dc_base.specs.Ports.{port_room, messages_in, latch_at, ports_after_send, signals_after}
+use Rattle.dc_base.specs.Limits.{port_room}
+use Rattle.dc_base.specs.Ports.{messages_in, latch_at, ports_after_send, signals_after}
 use Rattle.dc_base.specs.Serving.{need, Outside, console_outside, channel_outside, line_outside, Served, faulted, held_up, served, serve, serve_send, serve_receive, serve_claim}
 use Rattle.dc_base.specs.Slices.{ready_last, Halfway, stopped, stands, after_served, with_ahead, after_ahead, halfway, due_after, slice_end, without_ready}
 use Rattle.dc_base.specs.Timers.{due_timer, without_timer}

@@ -7,7 +7,7 @@ use Rattle.dc_base.specs.Bounded.{budget, IsFromZero}
 use Rattle.dc_base.specs.States.{State, Core, Block, Whereabouts, rest, on, time_on, time_of, clock_of}
 use Rattle.dc_base.specs.Words.{Each, above_zero}
 use Rattle.dc_sound.proofs.Budgets.{used_of, used-set}
-use Rattle.dc_sound.proofs.Elements.{same_or_not, SetCase, set_now, set_before, set_case}
+use Rattle.dc_block_sound.proofs.Elements.{same_or_not, SetCase, set_now, set_before, set_case}
 
 clock_of-here : (cs : List Core) (c : ℕ) (k new : Core) → slice_get cs c ≡ Some k → clock_of (slice_set cs c new) c ≡ new.clock
 clock_of-here [] c k new h = cc

@@ -22,7 +22,7 @@ use Rattle.dc_base.specs.Turns.{looked_at}
 use Rattle.dc_base.specs.Words.{Each, above_zero}
 use Rattle.dc_sound.proofs.EntryKinds.{got_by, sliced_of, IsSlice, IsSliceNone, IsIdle, IsWake, IsIntake, IsStart, IsStop, IsReplace, IsAdopt, IsRelease, slice_changes, Kind, is_slice, is_slice_none, is_idle, is_wake, is_intake, is_start, is_stop, is_replace, is_adopt, is_release, is_post, is_done, is_refused, is_route, is_awaited, is_raise}
 use Rattle.dc_sound.proofs.Rules.{Fine}
-use Rattle.dc_sound.proofs.Elements.{same_some, set_here, SetCase, set_now, set_before, set_case, AllCase, was_listed, not_listed, all_cores, block_case}
+use Rattle.dc_block_sound.proofs.Elements.{same_some, set_here, SetCase, set_now, set_before, set_case, AllCase, was_listed, not_listed, all_cores, block_case}
 use Rattle.dc_sound.proofs.Placed.{places, frame_obeyed, by_slice, by_slice_none, by_idle, by_wake, by_intake, by_post, by_done, by_refused, by_route, by_awaited, by_raise}
 use Rattle.dc_sound.proofs.CoresAfter.{outside_cores, post_cores, done_cores}
 use Rattle.dc_sound.proofs.Times.{Ticks, tick, no_tick, budget_is, clock_of-at, clocks_bound, OnTime, InTime, same_place}

@@ -15,11 +15,11 @@ use Rattle.dc_base.specs.Instructions.{decode}
 use Rattle.dc_base.specs.KeptByBlocks.{AllReady}
 use Rattle.dc_base.specs.Named.{is_channel_call, waits_on_channel, instr_of, WaitersStand}
 use Rattle.dc_base.specs.States.{State}
-use Rattle.dc_sound.proofs.ControlKept.{StepKeeps, kept_alone}
-use Rattle.dc_sound.proofs.ControlSteps.{MayWait, IsStill, woken, stands_still, held_up, went, moved_on, latch_taken}
-use Rattle.dc_sound.proofs.Elements.{SetCase, set_now, set_before, set_case, set_other, same_or_not, same_some}
+use Rattle.dc_sound.proofs.ControlKept.{kept_alone}
+use Rattle.dc_block_sound.proofs.ControlSteps.{MayWait, IsStill, woken, stands_still, held_up, went, moved_on, latch_taken, StepKeeps}
+use Rattle.dc_block_sound.proofs.Elements.{SetCase, set_now, set_before, set_case, set_other, same_or_not, same_some}
 use Rattle.dc_sound.proofs.EntryKinds.{Kind}
-use Rattle.dc_sound.proofs.Seats.{map_there}
+use Rattle.dc_block_sound.proofs.Seats.{map_there}
 
 -- each dispatcher that waits on a channel stands at a call on a channel
 abbrev pub Stands : ControlBlock → Type 0

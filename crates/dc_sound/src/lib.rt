@@ -1,8 +1,6 @@
 //! Laws of the machine with cores: each action keeps each part of soundness, and so each run keeps soundness.
 #![tactic(auto)]
 
-mod controls;
-
 ghost use Rattle.std.specs.Prelude.{◌≡◌, ℕ, List};
 ghost use Rattle.dc_base.specs.declared.actions.Actor.{Actor};
 ghost use Rattle.dc_base.specs.declared.actions.Action.{Action};
@@ -24,11 +22,6 @@ ghost use Rattle.dc_base.specs.Named.{IsNamed, WaitersStand};
 ghost use Rattle.dc_base.specs.Histories.{IsLawful, next};
 ghost use Rattle.dc_base.specs.Sound.{IsSound};
 ghost use Rattle.dc_base.specs.CoreRuns.{core_run_from};
-
-pub use controls::{
-    aheads_keep_controls, firing_keeps_controls, latching_keeps_controls, picked_is_ready,
-    ready_stand_once, slices_keep_controls, started_controls_are_sound, waking_keeps_controls,
-};
 
 /// A block is on a core exactly where that core's share lists it.
 pub fn placed_stays()

@@ -10,7 +10,7 @@ use Rattle.dc_base.specs.declared.faults.ImageFault.TheVariants as told
 use Rattle.dc_base.specs.declared.faults.TextFault.TheVariants as refused
 use Rattle.dc_base.specs.States.{settings_of}
 use Rattle.dc_script.specs.Texts.{AreBounds}
-use Rattle.dc_base.specs.TextWords.{longest_file}
+use Rattle.dc_base.specs.Limits.{longest_file}
 use Rattle.dc_top.specs.declared.halts.Halt.{Halt}
 use Rattle.dc_top.specs.declared.halts.Halt.TheVariants as halt
 use Rattle.dc_top.specs.declared.halts.Which.{Which}

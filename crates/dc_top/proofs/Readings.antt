@@ -5,7 +5,7 @@ use Rattle.dc_base.specs.declared.commands.Bounds.{Bounds}
 use Rattle.dc_base.specs.declared.faults.ImageFault.TheVariants as told
 use Rattle.dc_base.specs.declared.faults.TextFault.TheVariants as refused
 use Rattle.dc_base.specs.ScriptText.{text_read, script_of, schedule_of}
-use Rattle.dc_base.specs.TextWords.{longest_file}
+use Rattle.dc_base.specs.Limits.{longest_file}
 use Rattle.dc_image.specs.ImageOf.{image_of}
 use Rattle.dc_top.specs.declared.refusals.Refusal.TheVariants as why
 use Rattle.dc_top.specs.Halts.{verdict_of}

@@ -4,7 +4,8 @@ use Rattle.dc_base.specs.declared.images.Image.{Image}
 use Rattle.dc_base.specs.declared.actions.Actor.{Actor}
 use Rattle.dc_base.specs.declared.actions.Action.{Action}
 use Rattle.dc_base.specs.declared.commands.ScriptLine.{ScriptLine}
-use Rattle.dc_base.specs.TextWords.{longest_file, ended}
+use Rattle.dc_base.specs.Limits.{longest_file}
+use Rattle.dc_base.specs.TextWords.{ended}
 use Rattle.dc_base.specs.FaultText.{read_fault_line}
 use Rattle.dc_io.specs.Counts.{Rose}
 use Rattle.dc_top.specs.declared.refusals.Refusal.{Refusal}

@@ -2,7 +2,7 @@
 
 ghost use Rattle.std.specs.Prelude.{◌≡◌, ◌≤◌, ◌<◌, IfOk, IfErr, IfSome, Ok, length};
 ghost use Rattle.dc_base.specs.States.{Settings, settings_of};
-ghost use Rattle.dc_base.specs.TextWords.{longest_file};
+ghost use Rattle.dc_base.specs.Limits.{longest_file};
 ghost use Rattle.dc_base.specs.Valid.{IsValid, IsValidScript, IsValidSchedule};
 ghost use Rattle.dc_script.specs.Texts.{AreBounds};
 ghost use Rattle.dc_top.specs.Halts.{Halts, HaltsAt, IsReady, MissesAt};

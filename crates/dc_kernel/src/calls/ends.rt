@@ -7,7 +7,7 @@ ghost use Rattle.dc_base.specs.declared.capabilities.CapKind.TheVariants.{Frame}
 ghost use Rattle.dc_base.specs.Capabilities.{is_frame};
 ghost use Rattle.dc_base.specs.Kernel.{Call, with_end_and_frame, cap_in, number_in, first_in};
 ghost use Rattle.dc_caps.specs.Caps.{IsCap};
-ghost use Rattle.dc_sound.specs.SoundControls.{NamesOwn};
+ghost use Rattle.dc_block_sound.specs.SoundControls.{NamesOwn};
 ghost use Rattle.dc_kernel.specs.declared.calls.ends.Between.{Between as Passage};
 ghost use Rattle.dc_kernel.specs.Ends.{is_end, end_kind, end_right, frame_right, allowed};
 ghost use Rattle.dc_kernel.specs.Serves.{IsRunning};

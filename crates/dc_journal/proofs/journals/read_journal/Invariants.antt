@@ -1,5 +1,5 @@
 use Rattle.std.proofs.Common.{◌≡◌, ◌+◌, ◌≤◌, vec_len}
-use Rattle.dc_base.specs.TextWords.{longest_file}
+use Rattle.dc_base.specs.Limits.{longest_file}
 use Rattle.dc_base.specs.JournalText.{journal_of}
 use Rattle.dc_journal.specs.Lines.{left, lines_left}
 use Rattle.dc_journal.specs.Readings.{read_with}

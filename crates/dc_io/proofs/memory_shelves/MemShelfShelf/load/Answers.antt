@@ -1,7 +1,7 @@
 use Rattle.std.proofs.Common.{rules, ◌≡◌, Some, None, subst}
 use Rattle.std.specs.Prelude.{IsNone, IsSomeAnd, Option, ◌<◌, length}
 use Rattle.dc_io.specs.declared.memory_shelves.MemFile.{MemFile}
-use Rattle.dc_base.specs.TextWords.{longest_file}
+use Rattle.dc_base.specs.Limits.{longest_file}
 use Rattle.dc_io.specs.Files.{readable}
 use Rattle.dc_io.proofs.memory_shelves.MemShelfShelf.load.Goals as goal
 

@@ -5,7 +5,7 @@ use Rattle.dc_base.specs.ControlBlocks.{ControlBlock}
 use Rattle.dc_base.specs.Slices.{ready_last}
 use Rattle.dc_base.specs.Words.{lists}
 use Rattle.dc_ready.specs.Entries.{dispatchers}
-use Rattle.dc_sound.proofs.Elements.{set_here}
+use Rattle.dc_block_sound.proofs.Elements.{set_here}
 use Rattle.dc_kcb.specs.Controls.{state_of}
 use Rattle.dc_kernel.proofs.AgendaWrites.{no_store}
 use Rattle.dc_kernel.proofs.AgendaQueues.{waits-absent}

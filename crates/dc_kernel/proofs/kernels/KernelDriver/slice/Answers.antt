@@ -5,7 +5,7 @@ use Rattle.dc_base.specs.Firing.{Fired, fire_all}
 use Rattle.dc_base.specs.States.{time_on}
 use Rattle.dc_base.specs.Slices.{Sliced, need_of, slice_end}
 use Rattle.dc_base.specs.Words.{Each}
-use Rattle.dc_sound.specs.SoundControls.{IsSoundControl}
+use Rattle.dc_block_sound.specs.SoundControls.{IsSoundControl}
 use Rattle.dc_kernel.specs.Done.{done_empty, done, told}
 use Rattle.dc_kernel.specs.Forwards.{number_of, IsForward}
 use Rattle.dc_kernel.specs.Outsides.{outside_seen, Fits}

@@ -5,7 +5,7 @@ use Rattle.dc_base.specs.declared.dispatchers.DispState.{DispState}
 use Rattle.dc_base.specs.declared.dispatchers.DispState.TheVariants as disp
 use Rattle.dc_base.specs.declared.dispatchers.Wait.{Wait}
 use Rattle.dc_base.specs.Named.{waits_on_channel}
-use Rattle.dc_sound.specs.SoundControls.{IsSoundControl}
+use Rattle.dc_block_sound.specs.SoundControls.{IsSoundControl}
 use Rattle.dc_kernel.specs.Running.{Running}
 use Rattle.dc_kernel.proofs.kernels.KernelDriver.wake.Goals as goal
 

@@ -1,5 +1,0 @@
-use Rattle.dc_sound.proofs.ControlSound.{ahead_sound}
-use Rattle.dc_sound.proofs.controls.aheads_keep_controls.Goals as goal
-
-pub returns : goal.returns
-returns c = ahead_sound

@@ -1,5 +1,0 @@
-use Rattle.dc_sound.proofs.ControlSound.{firing_sound}
-use Rattle.dc_sound.proofs.controls.firing_keeps_controls.Goals as goal
-
-pub returns : goal.returns
-returns c = firing_sound

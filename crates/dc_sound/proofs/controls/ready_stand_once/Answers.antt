@@ -1,5 +1,0 @@
-use Rattle.dc_sound.proofs.ListedOnce.{listed_ready, ready_listed, listed_once, none_left}
-use Rattle.dc_sound.proofs.controls.ready_stand_once.Goals as goal
-
-pub returns : goal.returns
-returns c = record { listed = listed_ready; all = ready_listed; once = listed_once; taken = none_left }

@@ -1,5 +1,0 @@
-use Rattle.dc_sound.proofs.ControlSound.{slice_sound}
-use Rattle.dc_sound.proofs.controls.slices_keep_controls.Goals as goal
-
-pub returns : goal.returns
-returns c = slice_sound

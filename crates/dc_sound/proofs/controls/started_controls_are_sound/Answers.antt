@@ -1,5 +1,0 @@
-use Rattle.dc_sound.proofs.ControlSound.{start_sound_control}
-use Rattle.dc_sound.proofs.controls.started_controls_are_sound.Goals as goal
-
-pub returns : goal.returns
-returns c = start_sound_control
