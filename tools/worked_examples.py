@@ -475,7 +475,7 @@ def imports(body):
 
 def main():
     target = Path(sys.argv[1]) if len(sys.argv) > 1 else CRATE / "proofs"
-    for folder in sorted((CRATE / "examples").iterdir()):
+    for folder in sorted(path for path in (CRATE / "examples").iterdir() if path.is_dir()):
         proof = Example(folder).proof()
         for line in proof.splitlines():
             if len(line) > WIDTH:

@@ -11,7 +11,7 @@ use mathlib.Core.List.{append_assoc}
 use Rattle.dc_base.specs.declared.entries.Entry.{Entry}
 use Rattle.dc_base.specs.TextWords.{newline, lines_of, words_of, is_word, add_word, add_words, ended}
 use Rattle.dc_base.specs.EntryText.{actor_words, what_words, entry_text}
-use Rattle.dc_base.proofs.WordsLemmas.{words_of-add_words, words_of-word}
+use Rattle.dc_spelling.proofs.WordsLemmas.{words_of-add_words, words_of-word}
 use Rattle.dc_spelling.proofs.PlainWords.{has_no_newline, plain_no_newline, plain_is_word, plain_are_words, ArePlain}
 use Rattle.dc_spelling.proofs.Numerals.{is_numeral, decimal_is_numeral, plain_number}
 use Rattle.dc_spelling.proofs.EntryWords.{plain_actor, plain_what}

@@ -1,3 +1,5 @@
+pub mod WordsLemmas
+pub mod Reading
 pub mod PlainWords
 pub mod Numerals
 pub mod EntryWords

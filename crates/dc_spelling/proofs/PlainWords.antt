@@ -4,7 +4,7 @@ use Rattle.std.specs.List.{list_all}
 use Rattle.std.specs.Char.{is_ascii_graphic}
 use Rattle.std.proofs.lemmas.Bool.{and_parts, and_from}
 use Rattle.dc_base.specs.TextWords.{is_space, newline}
-use Rattle.dc_base.proofs.WordsLemmas.{has_no_space, IsWord, AreWords}
+use Rattle.dc_spelling.proofs.WordsLemmas.{has_no_space, IsWord, AreWords}
 
 -- each byte is shown
 abbrev pub are_shown : List ℕ → Bool

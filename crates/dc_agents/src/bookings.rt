@@ -1,6 +1,6 @@
 //! Bookings of boot commands by two agents.
 
-use crate::commands::{Command, Refusal};
+use dc_base::commands::{Command, Refusal};
 
 /// An agent, 0 or 1, booked the command of a line of its list, counted from 0; it is refused or accepted.
 #[derive(Clone, Copy, Debug, PartialEq, Eq)]

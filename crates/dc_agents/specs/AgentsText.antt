@@ -3,7 +3,7 @@ use Rattle.std.specs.Prelude.{ℕ, ◌+◌, List, [], ◌∷◌, ◌++◌, flat_
 use Rattle.dc_base.specs.declared.commands.Command.{Command}
 use Rattle.dc_base.specs.declared.commands.Command.TheVariants as command
 use Rattle.dc_base.specs.declared.commands.Refusal.{Refusal}
-use Rattle.dc_base.specs.declared.bookings.Booking.{Booking}
+use Rattle.dc_agents.specs.declared.bookings.Booking.{Booking}
 use Rattle.dc_base.specs.TextWords.{spaced, ended}
 use Rattle.dc_base.specs.EntryText.{version_word, refusal_words}
 
