@@ -6,6 +6,11 @@ ghost use Rattle.dc_base.specs.declared.images.Image.{Image};
 ghost use Rattle.dc_base.specs.declared.instructions.Instr.{Instr};
 ghost use Rattle.dc_base.specs.declared.commands.ScriptLine.{ScriptLine};
 ghost use Rattle.dc_base.specs.declared.entries.Entry.{Entry};
+ghost use Rattle.dc_base.specs.Words.{Each};
+ghost use Rattle.dc_base.specs.Capabilities.{Seat, seat_at};
+ghost use Rattle.dc_base.specs.Descent.{ReachesDescent};
+ghost use Rattle.dc_base.specs.ControlBlocks.{ControlBlock};
+ghost use Rattle.dc_base.specs.KeptByBlocks.{HasCaps};
 ghost use Rattle.dc_base.specs.Instructions.{decode, encode, is_proper};
 ghost use Rattle.dc_base.specs.BlockSteps.{blocks_run};
 ghost use Rattle.dc_base.specs.StrikeOut.{struck};
@@ -37,4 +42,11 @@ pub fn runs_are_struck_out()
 pub fn first_bad_is_named()
     ensures none { (image : Image) (script : List ScriptLine) (journal : List Entry) → (first_bad image script journal ≡ None) ↔ IsTrue (run_of image script journal) }
     ensures some { (image : Image) (script : List ScriptLine) (journal : List Entry) (ticket : ℕ) → first_bad image script journal ≡ Some ticket → IsFirstBad image script journal ticket }
+{}
+
+/// Counted steps from parent to parent lead to just the slots from which a slot descends: in any table, from the seat of each slot;
+/// and so from each seat of a control block.
+pub fn counted_steps_reach_what_is_above()
+    ensures seats { (caps : List Seat) (h : Seat) → seat_at caps h.slot ≡ Some h → ReachesDescent caps h }
+    ensures blocks { (x : ControlBlock) → HasCaps x → Each x.parts.caps (λ i (h : Seat). ReachesDescent x.parts.caps h) }
 {}

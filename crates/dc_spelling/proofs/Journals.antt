@@ -10,7 +10,8 @@ use Rattle.dc_base.specs.Results.{◌>>=◌, or_fault}
 use Rattle.dc_base.specs.TextWords.{newline, lines_of, is_word, ended}
 use Rattle.dc_base.specs.EntryText.{entry_text, journal_from, journal_text}
 use Rattle.dc_base.specs.EntryRanges.{has_line, is_in_range}
-use Rattle.dc_base.specs.JournalText.{entry_of, said_from, journal_of, EndsJournal}
+use Rattle.dc_base.specs.Journals.{EndsJournal}
+use Rattle.dc_base.specs.JournalText.{entry_of, said_from, journal_of}
 use Rattle.dc_spelling.proofs.EntryLines.{first_line, line_is_one, no_report}
 use Rattle.dc_spelling.proofs.Candidates.{entry_read}
 

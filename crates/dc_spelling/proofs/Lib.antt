@@ -10,4 +10,5 @@ pub mod Candidates
 pub mod Journals
 pub mod ReadRanges
 pub mod ReadLines
+pub mod Deciding
 mod PremisesNeeded

@@ -11,7 +11,8 @@ use Rattle.dc_base.specs.States.{settings_of}
 use Rattle.dc_base.specs.TextWords.{ended}
 use Rattle.dc_base.specs.EntryText.{journal_text}
 use Rattle.dc_base.specs.EntryRanges.{has_line, is_in_range}
-use Rattle.dc_base.specs.JournalText.{SpelledReads, EndsJournal, journal_of}
+use Rattle.dc_base.specs.Journals.{EndsJournal}
+use Rattle.dc_base.specs.JournalText.{SpelledReads, journal_of}
 use Rattle.dc_base.specs.Report.{report_lines}
 use Rattle.dc_base.specs.ReportText.{report_text, skipped_text, end_text}
 use Rattle.dc_base.specs.PlayText.{played_text, play_text}
