@@ -19,7 +19,7 @@ use Rattle.dc_base.specs.Turns.{did, not_enabled}
 use Rattle.dc_base.specs.Outcomes.{by_script}
 use Rattle.dc_base.specs.Commands.{at_next_command, await_outcome, raise_above}
 use Rattle.dc_base.specs.StandsFor.{StandsFor}
-use Rattle.dc_base.specs.Columns.{has_put_out}
+use Rattle.dc_base.specs.ScriptColumns.{has_put_out}
 use Rattle.dc_base.specs.Answers.{may_begin, only_if, await_answer, finished}
 use Rattle.dc_base.specs.Runs.{Terms}
 use Rattle.dc_base.specs.Sound.{IsSound}

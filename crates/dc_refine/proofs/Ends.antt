@@ -9,7 +9,7 @@ use Rattle.dc_base.specs.Blocks.{Blocks, Block, trapped, trap, call, move_of, in
 use Rattle.dc_base.specs.Effects.{Context, traps, calls, act, op_number, same_op}
 use Rattle.dc_base.specs.BlockCalls.{refused, stuck, completed, reply, reply_at, reply_of, if_completed, call_in, refused_by, trapped_by, either_trap, trap_at, trap_in}
 use Rattle.dc_base.specs.BlockSteps.{blocks_step}
-use Rattle.dc_base.specs.Columns.{holds_by, move_there}
+use Rattle.dc_base.specs.SliceColumns.{holds_by, move_there}
 use Rattle.dc_refine.proofs.Leads.{Leads, leads_one, with_block, in_block-at, IsAt, move_of-at}
 
 same_number : (n : ℕ) → n == n ≡ true

@@ -1,6 +1,7 @@
 -- One name for each group of definitions that proofs open together.
 use Rattle.dc_base.specs.StrikeOut.{events_of, core_events, told_after}
-use Rattle.dc_base.specs.Columns.{columns_agree, core_agrees, script_agrees}
+use Rattle.dc_base.specs.Columns.{columns_agree, core_agrees}
+use Rattle.dc_base.specs.ScriptColumns.{script_agrees}
 use Rattle.dc_base.specs.Holders.{well_held, held_after, held_after_core, holds_for}
 use Rattle.dc_base.specs.Answers.{answered_after, core_answer, script_answer}
 

@@ -16,7 +16,8 @@ use Rattle.dc_base.specs.Outcomes.{by_core, share_blocks, if_on}
 use Rattle.dc_base.specs.Steps.{with_clock, slice_turn, next_due, idle_outcome, is_runnable, step_on, step_turn}
 use Rattle.dc_base.specs.StandsFor.{StandsFor}
 use Rattle.dc_base.specs.StrikeOut.{clock_told, events_of, advances, times_after, told_after}
-use Rattle.dc_base.specs.Columns.{columns_agree, idle_agrees, waits_of}
+use Rattle.dc_base.specs.Columns.{columns_agree}
+use Rattle.dc_base.specs.CoreColumns.{idle_agrees, waits_of}
 use Rattle.dc_base.specs.Holders.{held_by, well_held}
 use Rattle.dc_base.specs.Answers.{boot_after, answered_after, from_on}
 use Rattle.dc_base.specs.Runs.{Terms, block_clock}

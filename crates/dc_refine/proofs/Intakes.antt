@@ -21,7 +21,8 @@ use Rattle.dc_base.specs.Outcomes.{has, if_on, if_here}
 use Rattle.dc_base.specs.Intakes.{intake_entry, intake_outcome, intake_pending, intake_line, intake_turn}
 use Rattle.dc_base.specs.StandsFor.{StandsFor}
 use Rattle.dc_base.specs.StrikeOut.{clock_told, events_of, told_after}
-use Rattle.dc_base.specs.Columns.{columns_agree, intake_agrees, is_bound_to, latched_on}
+use Rattle.dc_base.specs.Columns.{columns_agree}
+use Rattle.dc_base.specs.CoreColumns.{intake_agrees, is_bound_to, latched_on}
 use Rattle.dc_base.specs.Same.{is_same_latched}
 use Rattle.dc_base.proofs.SameLaws.{is_same_latched-refl}
 use Rattle.dc_base.specs.Holders.{well_held, held_once}
@@ -99,7 +100,7 @@ module _ (terms : Terms) (lines : List ScriptLine) (s : State) (t : Blocks) (c l
   columns : columns_agree terms.quantum (told_of s t) t entry ≡ true
   unfolding columns_open
   columns =
-      ap (intake_agrees t (suc m) b signal comes) here.line_at
+      ap (intake_agrees t (record { number = suc m; block = b; signal = signal; how = comes })) here.line_at
       ∙ ap (λ o. is_number (suc m) o && (is_bound_to b signal old.bound && is_same_latched comes (latched_on (slice_get t.blocks b) signal))) pending_now
       ∙ ap (λ f. f && (is_bound_to b signal old.bound && is_same_latched comes (latched_on (slice_get t.blocks b) signal))) (same_number (suc m))
       ∙ ap (λ o. is_bound_to b signal o && is_same_latched comes (latched_on (slice_get t.blocks b) signal)) bound_now

@@ -14,7 +14,7 @@ use Rattle.dc_base.specs.Turns.{Looked, looked_at}
 use Rattle.dc_base.specs.Outcomes.{share_blocks}
 use Rattle.dc_base.specs.Steps.{due_clock, due_clocks, next_due, is_runnable, can_run}
 use Rattle.dc_base.specs.StandsFor.{StandsFor}
-use Rattle.dc_base.specs.Columns.{waits_of}
+use Rattle.dc_base.specs.CoreColumns.{waits_of}
 use Rattle.dc_base.specs.Holders.{held_by}
 use Rattle.dc_base.specs.Placed.{IsPlaced, IsOn}
 use Rattle.dc_base.specs.Telling.{holders_from}

@@ -9,7 +9,7 @@ use Rattle.dc_base.specs.States.{State}
 use Rattle.dc_base.specs.Shown.{is_stray, is_merged, is_latched, is_joined, is_delivered}
 use Rattle.dc_base.specs.StandsFor.{StandsFor, LatchesAgree, counts_of}
 use Rattle.dc_base.specs.BlockSteps.{raise_in, blocks_step}
-use Rattle.dc_base.specs.Columns.{raise_agrees}
+use Rattle.dc_base.specs.ScriptColumns.{raise_agrees}
 use Rattle.dc_base.specs.Same.{is_same_raised}
 use Rattle.dc_base.proofs.SameLaws.{is_same_raised-refl}
 use Rattle.dc_refine.proofs.Elements.{same_at}

@@ -27,7 +27,8 @@ use Rattle.dc_base.specs.Ahead.{Ahead, AheadEnd, at_quantum, at_halt, at_trap, a
 use Rattle.dc_base.specs.Firing.{Fired, fire_all}
 use Rattle.dc_base.specs.Steps.{with_clock, core_after_slice, outside_change, slice_entry, slice_outcome}
 use Rattle.dc_base.specs.Outcomes.{share_with_last}
-use Rattle.dc_base.specs.Columns.{columns_agree, slice_agrees, after_fires, after_instrs, none_due, end_agrees, advance_of}
+use Rattle.dc_base.specs.Columns.{columns_agree}
+use Rattle.dc_base.specs.SliceColumns.{SliceColumns, slice_agrees, agrees_after, after_instrs, none_due, end_agrees, advance_of}
 use Rattle.dc_base.specs.Progress.{boot_of}
 use Rattle.dc_base.specs.Placed.{IsOn, homes_in}
 use Rattle.dc_base.specs.KeptByBlocks.{HasReady}
@@ -187,18 +188,22 @@ module _ (terms : Terms) (lines : List ScriptLine) (s : State) (t : Blocks) (c b
     none_due_there : none_due t0 b ≡ true
     none_due_there = ap (λ o. option_map_or (λ (x : blocks.Block). not (is_due x.clock x.parts.timers)) o false) there0 ∙ ap (λ o. not (is_some o)) well.none_left
 
+    -- the columns that it shows
+    abbrev shown : SliceColumns
+    shown = record { block = b; dispatcher = d; fired = fired.count; ran = sl.ran; end = sl.end; clock = k.clock + sl.advance }
+
     columns : terms.quantum ≡ k.settings.quantum → columns_agree terms.quantum (told_of s t) t entry ≡ true
     unfolding columns_open
     columns same =
         let instrs : after_instrs (Some t0) b d sl.ran ≡ Some (with_block t b z) = ap (λ n. after_instrs (Some t0) b d n) ends.ran ∙ instrs_lead.by in
         let clock_ok : (k.clock + sl.advance == k.clock + advance_of sl.ran sl.end) ≡ true = ap (λ n. k.clock + sl.advance == k.clock + n) ends.moved ∙ same_number (k.clock + sl.advance) in
-        ap (λ q. slice_agrees q (clock_told (told_of s t) c) b d sl.ran sl.end (k.clock + sl.advance) (after_fires t b fired.count) (after_instrs (after_fires t b fired.count) b d sl.ran)) same
-        ∙ ap (λ n. slice_agrees k.settings.quantum n b d sl.ran sl.end (k.clock + sl.advance) (after_fires t b fired.count) (after_instrs (after_fires t b fired.count) b d sl.ran)) (clock_was s c k new next turned t)
-        ∙ ap (λ o. slice_agrees k.settings.quantum k.clock b d sl.ran sl.end (k.clock + sl.advance) o (after_instrs o b d sl.ran)) fires_lead.by
-        ∙ ap (λ o. slice_agrees k.settings.quantum k.clock b d sl.ran sl.end (k.clock + sl.advance) (Some t0) o) instrs
-        ∙ ap (λ v. v && (none_due t0 b && (end_agrees k.settings.quantum (with_block t b z) b d sl.ran sl.end && (k.clock + sl.advance == k.clock + advance_of sl.ran sl.end)))) (not_above sl.ran k.settings.quantum ends.within)
-        ∙ ap (λ v. v && (end_agrees k.settings.quantum (with_block t b z) b d sl.ran sl.end && (k.clock + sl.advance == k.clock + advance_of sl.ran sl.end))) none_due_there
-        ∙ ap (λ v. v && (k.clock + sl.advance == k.clock + advance_of sl.ran sl.end)) ends.agrees
+        ap (λ q. slice_agrees q (clock_told (told_of s t) c) shown t) same
+        ∙ ap (λ n. slice_agrees k.settings.quantum n shown t) (clock_was s c k new next turned t)
+        ∙ ap (λ o. agrees_after k.settings.quantum k.clock shown o (after_instrs o b d sl.ran)) fires_lead.by
+        ∙ ap (λ o. agrees_after k.settings.quantum k.clock shown (Some t0) o) instrs
+        ∙ ap (λ v. v && (none_due t0 b && (end_agrees k.settings.quantum shown (with_block t b z) sl.end && (k.clock + sl.advance == k.clock + advance_of sl.ran sl.end)))) (not_above sl.ran k.settings.quantum ends.within)
+        ∙ ap (λ v. v && (end_agrees k.settings.quantum shown (with_block t b z) sl.end && (k.clock + sl.advance == k.clock + advance_of sl.ran sl.end))) none_due_there
+        ∙ ap (λ v. v && (k.clock + sl.advance == k.clock + advance_of sl.ran sl.end)) (ends.agrees fired.count (k.clock + sl.advance))
         ∙ clock_ok
 
     held_well : well_held terms.clocks (told_of s t).holders (block_clock t) (clock_told (told_of s t)) entry ≡ true

@@ -29,7 +29,7 @@ use Rattle.dc_base.specs.BlockCalls.{Reply, reply}
 use Rattle.dc_base.specs.Serving.{need, Served, faulted, held_up, served, serve}
 use Rattle.dc_base.specs.Firing.{wake_if, wake}
 use Rattle.dc_base.specs.Steps.{outside_change}
-use Rattle.dc_base.specs.Columns.{end_agrees, advance_of}
+use Rattle.dc_base.specs.SliceColumns.{SliceColumns, end_agrees, advance_of}
 use Rattle.dc_refine.proofs.Elements.{slice_set-same, slice_get-set_same}
 use Rattle.dc_refine.proofs.Leads.{Leads, leads_none, with_block, IsAt}
 use Rattle.dc_refine.proofs.Going.{with_end, StopsAt}
@@ -106,12 +106,16 @@ module _ (s : State) (t : Blocks) (stands : StandsFor s t) (b d c q : ℕ) (v : 
   abbrev pub sliced_by : Ahead → AheadEnd → Sliced
   sliced_by a e = slice_end c b v d (after_ahead time x0 d a e) (outside_at s b (need_of (after_ahead time x0 d a e)))
 
+  -- the columns that the slice shows
+  abbrev pub columns_of : Sliced → ℕ → ℕ → SliceColumns
+  columns_of sl fired clock = record { block = b; dispatcher = d; fired = fired; ran = sl.ran; end = sl.end; clock = clock }
+
   pub record EndsIn (sl : Sliced) (z : blocks.Block) (n : ℕ) : Type 0 where
     pub ran : sl.ran ≡ n
     pub last : Blocks
     pub leads : Leads (with_block t b z) (end_events b d sl.end) last
     pub stands_last : StandsFor (with_outside b sl.need sl.outside (record s { blocks = slice_set s.blocks b (with_control sl.control x) })) last
-    pub agrees : end_agrees q (with_block t b z) b d sl.ran sl.end ≡ true
+    pub agrees : (fired clock : ℕ) → end_agrees q (columns_of sl fired clock) (with_block t b z) sl.end ≡ true
     pub within : sl.ran ≤ q
     pub moved : advance_of sl.ran sl.end ≡ sl.advance
     pub goes : 0 < sl.advance
@@ -149,7 +153,7 @@ module _ (s : State) (t : Blocks) (stands : StandsFor s t) (b d c q : ℕ) (v : 
     leads = leads_none (t1 a);
     stands_last = subst (λ z. StandsFor (record s { blocks = slice_set s.blocks b (with_control (due_after v d (ready_last d (x1 a))) x) }) (with_block t b z)) (live_again a disp.Ready refl)
         (stop_stands a disp.Ready (ready_last d (x1 a)) refl (sym ready_kept));
-    agrees = rw (stop.0, same_number q, move_there-is (t1 a) b d (y1 a) code a.context (there_after (y1 a)) (at_stop a), stop.1);
+    agrees = λ fired clock. rw (stop.0, same_number q, move_there-is (t1 a) b d (y1 a) code a.context (there_after (y1 a)) (at_stop a), stop.1);
     within = omega (arith, stop.0);
     moved = refl;
     goes = max_one a.ran;
@@ -165,7 +169,7 @@ module _ (s : State) (t : Blocks) (stands : StandsFor s t) (b d c q : ℕ) (v : 
         last = with_block t b z;
         leads = leads_none (with_block t b z);
         stands_last = stop_stands a disp.Halted (with_state d disp.Halted (x1 a)) refl refl;
-        agrees = rw (below_test 0 a.ran stop.0, there_after z, life);
+        agrees = λ fired clock. rw (below_test 0 a.ran stop.0, there_after z, life);
         within = stop.1;
         moved = refl;
         goes = max_one a.ran;
@@ -180,7 +184,7 @@ module _ (s : State) (t : Blocks) (stands : StandsFor s t) (b d c q : ℕ) (v : 
         last = with_block t b z;
         leads = subst (λ u. Leads (t1 a) (blocks.trap b d n ∷ []) u) (twice (y1 a) z) (leads_trap (t1 a) b d (y1 a) code a.context (there_after (y1 a)) (at_stop a) n stop.1);
         stands_last = stop_stands a (disp.Trapped n) (with_state d (disp.Trapped n) (x1 a)) refl refl;
-        agrees = or_right (nat_lt 3 n) (nat_lt a.ran q) (below_test a.ran q stop.0);
+        agrees = λ fired clock. or_right (nat_lt 3 n) (nat_lt a.ran q) (below_test a.ran q stop.0);
         within = omega (arith, stop.0);
         moved = refl;
         goes = max_one a.ran;
@@ -204,7 +208,7 @@ module _ (s : State) (t : Blocks) (stands : StandsFor s t) (b d c q : ℕ) (v : 
           leads = subst (λ u. Leads (t1 a) (blocks.trap b d n ∷ []) u) (twice (y1 a) z) (leads_refused (t1 a) b d (y1 a) code a.context (there_after (y1 a)) (at_stop a) o i stop.1 n (e ∙ m));
           stands_last = subst (λ m. StandsFor m (with_block t b z)) (sym (with_outside_same s b (slice_set s.blocks b (with_control (due_after v d (with_state d (disp.Trapped n) (x1 a))) x)) nd))
               (stop_stands a (disp.Trapped n) (with_state d (disp.Trapped n) (x1 a)) refl refl);
-          agrees = rw big refl;
+          agrees = λ fired clock. rw big refl;
           within = stop.0;
           moved = refl;
           goes = max_one a.ran;
@@ -218,7 +222,7 @@ module _ (s : State) (t : Blocks) (stands : StandsFor s t) (b d c q : ℕ) (v : 
           stands_last = subst (λ m. StandsFor m (t1 a)) (sym (with_outside_same s b (slice_set s.blocks b (with_control (due_after v d (with_state d (disp.Waits w) (x1 a))) x)) nd))
               (subst (λ z. StandsFor (record s { blocks = slice_set s.blocks b (with_control (due_after v d (with_state d (disp.Waits w) (x1 a))) x) }) (with_block t b z)) (live_again a (disp.Waits w) refl)
               (stop_stands a (disp.Waits w) (with_state d (disp.Waits w) (x1 a)) refl refl));
-          agrees = holds_there (t1 a) b d (y1 a) code a.context (there_after (y1 a)) (at_stop a) o i stop.1 (e ∙ m);
+          agrees = λ fired clock. holds_there (t1 a) b d (y1 a) code a.context (there_after (y1 a)) (at_stop a) o i stop.1 (e ∙ m);
           within = stop.0;
           moved = refl;
           goes = max_one a.ran;
@@ -235,7 +239,7 @@ module _ (s : State) (t : Blocks) (stands : StandsFor s t) (b d c q : ℕ) (v : 
           last = m.0;
           leads = leads_made (t1 a) b d (y1 a) code a.context (there_after (y1 a)) (at_stop a) o i stop.1 m.0 (e ∙ m.1);
           stands_last = subst (λ l. StandsFor (with_outside b nd out (record s { blocks = l })) m.0) (set-set s.blocks b (with_control (x1 a) x) (with_control (due_after v d xb) x)) (m.2 (due_after v d xb) goes_on);
-          agrees = refl;
+          agrees = λ fired clock. refl;
           within = stop.0;
           moved = refl;
           goes = omega arith;

@@ -18,7 +18,8 @@ use Rattle.dc_base.specs.BlockSteps.{run_on}
 use Rattle.dc_base.specs.Firing.{Fired, fire_all}
 use Rattle.dc_base.specs.Steps.{with_clock, empty_outcome}
 use Rattle.dc_base.specs.Outcomes.{share_with_last, by_core}
-use Rattle.dc_base.specs.Columns.{columns_agree, none_slice_agrees, after_fires, none_due}
+use Rattle.dc_base.specs.Columns.{columns_agree}
+use Rattle.dc_base.specs.SliceColumns.{none_slice_agrees, after_fires, none_due}
 use Rattle.dc_base.specs.Progress.{boot_of}
 use Rattle.dc_base.specs.Telling.{told_of, answered_of, holders_from, times_of, clocks_of}
 use Rattle.dc_refine.proofs.Good.{Good}

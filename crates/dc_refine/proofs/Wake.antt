@@ -32,7 +32,9 @@ use Rattle.dc_base.specs.Outcomes.{by_core, if_here, if_on, has}
 use Rattle.dc_base.specs.Wakes.{after_wake, ready_again, wake_sender, wake_receiver, wake_waiting, wake_in, wake_turn}
 use Rattle.dc_base.specs.Turns.{not_enabled, spent, ends, look_block, outcome}
 use Rattle.dc_base.specs.BlockSteps.{run_on}
-use Rattle.dc_base.specs.Columns.{columns_agree, at_channel, move_there}
+use Rattle.dc_base.specs.Columns.{columns_agree}
+use Rattle.dc_base.specs.CoreColumns.{at_channel}
+use Rattle.dc_base.specs.SliceColumns.{move_there}
 use Rattle.dc_base.specs.Progress.{boot_of}
 use Rattle.dc_base.specs.Named.{is_channel_call, waits_on_channel, instr_of}
 use Rattle.dc_base.specs.Telling.{told_of, answered_of, holders_from, times_of, clocks_of}

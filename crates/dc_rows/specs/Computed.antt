@@ -16,6 +16,7 @@ use Rattle.dc_base.specs.BlockSteps as blocksteps_
 use Rattle.dc_base.specs.Holders as holders_
 use Rattle.dc_base.specs.StrikeOut as strikeout_
 use Rattle.dc_base.specs.Columns as columns_
+use Rattle.dc_base.specs.ScriptColumns as scriptcolumns_
 use Rattle.dc_base.specs.Answers as answers_
 use Rattle.dc_base.specs.Runs as runs_
 use Rattle.dc_base.specs.Shown as shown_
@@ -58,7 +59,7 @@ unfolding shared_parts blocks_.blocks_start blocks_.move_of blocks_.instr_in blo
     blockcalls_.trap_at blockcalls_.trap_in blocksteps_.fire_in blocksteps_.raise_in blocksteps_.intake_in blocksteps_.advance_in
     blocksteps_.blocks_step holders_.held_start holders_.held_after_core holders_.held_after holders_.held holders_.holds_for holders_.well_held
     strikeout_.told_start strikeout_.core_events strikeout_.events_of strikeout_.told_after strikeout_.struck columns_.core_agrees
-    columns_.script_agrees columns_.columns_agree answers_.boot_after answers_.from_on answers_.answered_start answers_.script_answer
+    scriptcolumns_.script_agrees columns_.columns_agree answers_.boot_after answers_.from_on answers_.answered_start answers_.script_answer
     answers_.core_answer answers_.answered_after runs_.seen_start runs_.entry_holds runs_.run_step runs_.run runs_.first_bad runs_.boot_state
     shown_.shown_by shown_.fates_of shown_.shown shown_.all_shown_by headline_.blocks_reported headline_.blocks_held
 machine_of_blocks = tt
