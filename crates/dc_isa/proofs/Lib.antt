@@ -1,6 +1,5 @@
 mod WordLaws
 mod Tables
-mod Lines
 mod LineWords
 mod Digits
 mod LabelLaws

@@ -4,16 +4,11 @@ use Rattle.std.specs.Borrow.{Bor}
 use Rattle.dc_base.specs.declared.faults.AsmFault.{AsmFault}
 use Rattle.dc_base.specs.declared.faults.AsmFault.TheVariants.{Bad, Memory}
 use Rattle.dc_base.specs.ProgramText.{Label, Statement, statement, code_words, place_of, labels_from, words_from}
-use Rattle.dc_isa.specs.Lines.{lines_left}
+use Rattle.dc_text.specs.Rest.{lines_left}
 
 -- the statements of the rest of a text
 abbrev pub statements_left : Option (Bor (List ℕ)) → List Statement
 statements_left rest = map (λ line. statement (code_words line)) (lines_left rest)
-
--- how many lines the rest of a text may still have
-abbrev pub left : Option (Bor (List ℕ)) → ℕ
-left None = 0
-left (Some rest) = length rest.now + 1
 
 -- the first place that is there
 abbrev pub or_else : Option ℕ → Option ℕ → Option ℕ

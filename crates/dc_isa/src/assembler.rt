@@ -10,9 +10,9 @@ ghost use Rattle.dc_isa.specs.Assembly.{NotesLabel, AddsWord};
 use crate::labels::{Labels, no_labels};
 use crate::operands::{operands_sum, word_count};
 use crate::operations::operation_of;
-use crate::scan::first_line;
 use crate::statements::{Statement, is_label_name, statement_of};
 use dc_base::faults::{AsmFault, AsmKind};
+use dc_text::first_line;
 use std::alloc::{AllocError, Global};
 
 /// The word of an instruction.

@@ -1,39 +1,11 @@
-//! Lines and words of a text.
+//! The words of a line of code.
 
 ghost use Rattle.std.specs.Prelude.{◌≡◌, ◌==◌, ◌≤◌, ◌<◌, [], ◌∷◌, length, take, drop, slice_index, IfSome, MatchOption, true, false};
-ghost use Rattle.std.specs.List.{position, position_or_len, before_first};
-ghost use Rattle.dc_base.specs.TextWords.{lines_of, words_by, words_after};
+ghost use Rattle.std.specs.List.{before_first};
+ghost use Rattle.dc_base.specs.TextWords.{words_by, words_after};
 ghost use Rattle.dc_base.specs.ProgramText.{separates};
-ghost use Rattle.dc_isa.specs.Lines.{lines_left};
 
-fn find_byte(bytes: &[u8], byte: u8) -> Option<usize>
-    ensures { result ≡ position (λ b. b == byte) bytes.now }
-{
-    bytes.iter().position(|b| *b == byte)
-}
-
-/// The first place of a byte, or the length where it is nowhere.
-#[tactic(auto, using(crate::proofs::Lines::place_or))]
-fn place_of_byte(bytes: &[u8], byte: u8) -> usize
-    ensures place { result ≡ position_or_len (λ b. b == byte) bytes.now }
-    ensures within { result ≤ length bytes.now }
-{
-    find_byte(bytes, byte).unwrap_or(bytes.len())
-}
-
-/// The first line, and the bytes of the further lines. None where it is the last.
-#[tactic(auto, using(crate::proofs::Lines::first_of_lines, crate::proofs::Lines::last_of_lines))]
-pub(crate) fn first_line(text: &[u8]) -> (&[u8], Option<&[u8]>)
-    ensures lines { lines_of text.now ≡ result.0.now ∷ lines_left result.1 }
-    ensures shorter { IfSome result.1 (λ rest. length rest.now < length text.now) }
-{
-    let end = place_of_byte(text, b'\n');
-    if end < text.len() {
-        (&text[..end], Some(&text[end + 1..]))
-    } else {
-        (text, None)
-    }
-}
+use dc_text::place_of_byte;
 
 /// The line up to its comment.
 pub(crate) fn before_comment(line: &[u8]) -> &[u8]

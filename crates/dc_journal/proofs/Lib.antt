@@ -2,5 +2,4 @@ mod Choices
 mod Numbers
 mod Placing
 mod Reading
-mod TextLines
 mod WordPlaces

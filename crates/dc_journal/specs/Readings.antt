@@ -6,7 +6,7 @@ use Rattle.dc_base.specs.declared.faults.JournalFault.{JournalFault}
 use Rattle.dc_base.specs.declared.faults.JournalFault.TheVariants.{TooLong, Bad, Memory}
 use Rattle.dc_base.specs.TextWords.{lines_of}
 use Rattle.dc_base.specs.JournalText.{said_from, entry_of}
-use Rattle.dc_journal.specs.Lines.{lines_left}
+use Rattle.dc_text.specs.Rest.{lines_left}
 
 -- the line spells an entry with the next ticket, which is added, or its number is the fault
 abbrev pub AddsEntry : Result (Unit {0}) JournalFault → (old new : List Entry) → List ℕ → Type 0

@@ -6,16 +6,16 @@ ghost use Rattle.dc_base.specs.Limits.{longest_file};
 ghost use Rattle.dc_base.specs.EntryText.{entry_text};
 ghost use Rattle.dc_base.specs.EntryRanges.{has_line};
 ghost use Rattle.dc_base.specs.JournalText as spec;
-ghost use Rattle.dc_journal.specs.Lines.{left};
+ghost use Rattle.dc_text.specs.Rest.{most_left};
 ghost use Rattle.dc_journal.specs.Readings.{AddsEntry, ReadsLine};
 
 use crate::candidates::candidate;
 use crate::entries::{entry_line, has_line};
-use crate::scan::first_line;
 use crate::words::{is_word, words_in};
 use dc_base::entries::Entry;
 use dc_base::faults::JournalFault;
 use dc_base::numbers::Ticket;
+use dc_text::first_line;
 use std::alloc::Global;
 
 /// Whether a line spells an entry just so.

@@ -9,7 +9,6 @@ mod merging;
 mod names;
 mod refusals;
 mod reports;
-mod scan;
 #[cfg(test)]
 mod tests;
 mod whats;

@@ -1,4 +1,3 @@
-mod TextLines
 mod Rows
 mod Counting
 mod Validity

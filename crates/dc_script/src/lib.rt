@@ -2,7 +2,6 @@
 #![tactic(auto)]
 
 mod commands;
-mod lines;
 mod schedules;
 mod scripts;
 #[cfg(test)]

@@ -7,13 +7,12 @@ ghost use Rattle.dc_base.specs.ScriptText.{text_read, counted_from, lines_read};
 ghost use Rattle.dc_text.specs.Places.{texts_at, IsPlaceIn};
 ghost use Rattle.dc_script.specs.Texts.{is_comment, counted_words, AddsLine};
 
-use crate::lines::first_line;
 use crate::words::Words;
 use arrayvec::ArrayVec;
 use dc_base::commands::Bounds;
 use dc_base::faults::{TextFault, TextKind};
 use dc_base::lists::Items;
-use dc_text::words;
+use dc_text::{first_line, words};
 use std::alloc::Global;
 
 /// No text has more bytes.

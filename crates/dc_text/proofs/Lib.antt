@@ -3,3 +3,4 @@ pub mod Commas
 mod Numbers
 mod Scanning
 mod Texts
+pub mod TextLines

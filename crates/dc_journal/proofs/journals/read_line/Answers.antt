@@ -1,5 +1,5 @@
 use Rattle.std.proofs.Common.{rules, ◌≡◌, ◌∷◌, Err, ap, sym, subst, ◌∙◌}
-use Rattle.dc_journal.specs.Lines.{lines_left}
+use Rattle.dc_text.specs.Rest.{lines_left}
 use Rattle.dc_journal.specs.Readings.{ReadsLine}
 use Rattle.dc_journal.proofs.Reading.{reads_report, reads_entry, reads_fault}
 use Rattle.dc_journal.proofs.journals.read_line.Goals as goal

@@ -1,7 +1,7 @@
 use Rattle.std.proofs.Common.{◌≡◌, ◌+◌, ◌≤◌, length}
 use Rattle.dc_base.specs.TextWords.{lines_of}
 use Rattle.dc_base.specs.ScriptText.{counted_from, lines_read}
-use Rattle.dc_script.specs.Lines.{lines_left, most_left}
+use Rattle.dc_text.specs.Rest.{lines_left, most_left}
 use Rattle.dc_script.specs.Texts.{said_from}
 use Rattle.dc_script.proofs.texts.read_lines.Given as goal
 

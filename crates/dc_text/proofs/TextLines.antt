@@ -8,7 +8,7 @@ use Rattle.std.proofs.lemmas.List.{take_all, length-drop}
 use Rattle.std.proofs.lemmas.List.Sums.{prefix_len-le-length}
 use Rattle.std.proofs.lemmas.List.Splits.{slice_split_first}
 use Rattle.dc_base.specs.TextWords.{newline, lines_of}
-use Rattle.dc_journal.specs.Lines.{left}
+use Rattle.dc_text.specs.Rest.{most_left}
 
 -- the place, or the length where there is none
 pub place_or : (p : ℕ → Bool) (xs : List ℕ) → unwrap_or (position p xs) (length xs) ≡ position_or_len p xs
@@ -48,6 +48,6 @@ pub last_of_lines : (text : List ℕ) (end : ℕ) → end ≡ position_or_len (�
 last_of_lines text end is past = split_none (λ b. b == newline) text (subst (λ n. length text ≤ n) is past)
 
 -- of a shorter rest less is left
-pub left_less : (rest : Option (Bor (List ℕ))) (n : ℕ) → IfSome rest (λ r. length r.now < n) → left rest ≤ n
+pub left_less : (rest : Option (Bor (List ℕ))) (n : ℕ) → IfSome rest (λ r. length r.now < n) → most_left rest ≤ n
 left_less None n h = omega arith
 left_less (Some r) n h = omega (arith, h)
