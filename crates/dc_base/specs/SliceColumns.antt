@@ -5,6 +5,7 @@ use Rattle.dc_base.specs.declared.calls.Op.{Op}
 use Rattle.dc_base.specs.declared.calls.End.{End}
 use Rattle.dc_base.specs.declared.calls.End.TheVariants as end
 use Rattle.dc_base.specs.Words.{bind}
+use Rattle.dc_base.specs.Traps.{past_memory}
 use Rattle.dc_base.specs.Effects.{Move, is_call, same_op}
 use Rattle.dc_base.specs.Timers.{is_due}
 use Rattle.dc_base.specs.Blocks.{Blocks, Block, Life, halted, instr, fire, move_of}
@@ -57,11 +58,11 @@ abbrev pub holds_by : Op → Option (Op × Reply) → Bool
 holds_by o None = false
 holds_by o (Some a) = same_op a.0 o && is_held a.1
 
--- what a slice's end says of the blocks after its instructions
+-- what a slice's end says of the blocks after its instructions: the traps up to past_memory are those of plain instructions, which come within the quantum
 abbrev pub end_agrees : ℕ → SliceColumns → Blocks → End → Bool
 end_agrees quantum slice s end.Quantum = slice.ran == quantum && no_call (move_there s slice.block slice.dispatcher)
 end_agrees quantum slice s end.Halt = nat_lt 0 slice.ran && halted_at s slice.block slice.dispatcher
-end_agrees quantum slice s (end.Trap x) = nat_lt 3 x || nat_lt slice.ran quantum
+end_agrees quantum slice s (end.Trap x) = nat_lt past_memory x || nat_lt slice.ran quantum
 end_agrees quantum slice s (end.Call o) = true
 end_agrees quantum slice s (end.Hold o) = holds_by o (reply_of s slice.block slice.dispatcher)
 end_agrees quantum slice s end.Empty = false
