@@ -11,7 +11,7 @@ use Rattle.std.proofs.lemmas.List.Folds.{list_all-append}
 use Rattle.std.proofs.lemmas.Int.Digits.{digits_value_more}
 use Rattle.std.proofs.lemmas.Str.{digit_value_digit}
 use Rattle.std.proofs.lemmas.Str.Parse.{digits_value-take-le}
-use Rattle.dc_base.specs.JournalText.{loose_number}
+use Rattle.dc_base.specs.LooseWords.{loose_number}
 
 pub digits_more : (word : List ℕ) (at : ℕ) → at < length word → is_ascii_digit (get_or word at 0) ≡ true → list_all is_ascii_digit (take at word) ≡ true → list_all is_ascii_digit (take (at + 1) word) ≡ true
 digits_more word at within digit before =

@@ -4,7 +4,7 @@ use Rattle.std.specs.Borrow.{Bor}
 use Rattle.std.specs.Option.{option_copied}
 use Rattle.std.specs.List.{slice_get}
 use Rattle.std.proofs.lemmas.List.{take_all, length-drop, drop-map}
-use Rattle.dc_base.specs.JournalText.{last_word}
+use Rattle.dc_base.specs.LooseWords.{last_word}
 use Rattle.dc_journal.specs.Lines.{texts}
 
 last_at : (words : List (Bor (List ℕ))) (w : Bor (List ℕ)) → slice_get words (length words - 1) ≡ Some w → w.now ≡ last_word (texts words)

@@ -7,7 +7,8 @@ ghost use Rattle.dc_base.specs.declared.actions.Actor.TheVariants as actor;
 ghost use Rattle.dc_base.specs.declared.entries.What.TheVariants as what;
 ghost use Rattle.dc_base.specs.declared.interrupts.Latched.TheVariants as latched;
 ghost use Rattle.dc_base.specs.TextWords.{is_word};
-ghost use Rattle.dc_base.specs.JournalText as spec;
+ghost use Rattle.dc_base.specs.LooseWords as spec;
+ghost use Rattle.dc_base.specs.LooseEntries as entries;
 ghost use Rattle.dc_journal.specs.Lines.{texts};
 
 use crate::ends::{end_of, order_of, version_of};
@@ -29,7 +30,7 @@ fn words_behind<'w, 'a>(words: &'w [&'a [u8]], n: usize) -> &'w [&'a [u8]]
 /// A slice of a dispatcher.
 fn slice_of(words: &[&[u8]]) -> Option<What>
     ensures { let ws = texts words.now in
-        result ≡ option_map (λ e. what.Slice (record { 0 = spec.number_at ws 1 }) (record { 0 = spec.number_at ws 2 }) (spec.number_at ws 4) (spec.number_at ws 6) e (spec.last_number ws)) (spec.end_of (spec.word_at ws 7) (spec.word_at ws 8)) }
+        result ≡ option_map (λ e. what.Slice (record { 0 = spec.number_at ws 1 }) (record { 0 = spec.number_at ws 2 }) (spec.number_at ws 4) (spec.number_at ws 6) e (spec.last_number ws)) (entries.end_of (spec.word_at ws 7) (spec.word_at ws 8)) }
 {
     match end_of(word_at(words, 7), word_at(words, 8)) {
         Some(end) => Some(What::Slice {
@@ -61,7 +62,7 @@ fn any_slice_of(words: &[&[u8]]) -> Option<What>
     ensures { let ws = texts words.now in
         result ≡ (if is_word "-" (spec.word_at ws 2)
         then Some (what.SliceNone (record { 0 = spec.number_at ws 1 }) (spec.number_at ws 4) (spec.last_number ws))
-        else option_map (λ e. what.Slice (record { 0 = spec.number_at ws 1 }) (record { 0 = spec.number_at ws 2 }) (spec.number_at ws 4) (spec.number_at ws 6) e (spec.last_number ws)) (spec.end_of (spec.word_at ws 7) (spec.word_at ws 8))) }
+        else option_map (λ e. what.Slice (record { 0 = spec.number_at ws 1 }) (record { 0 = spec.number_at ws 2 }) (spec.number_at ws 4) (spec.number_at ws 6) e (spec.last_number ws)) (entries.end_of (spec.word_at ws 7) (spec.word_at ws 8))) }
 {
     if is_at(words, 2, "-") {
         Some(slice_none_of(words))
@@ -133,9 +134,9 @@ fn adopt_of(words: &[&[u8]]) -> What
 }
 
 /// What a core did, by the words behind the core's number.
-#[tactic(auto, unfolding(dc_base::specs::JournalText::core_what))]
+#[tactic(auto, unfolding(dc_base::specs::LooseEntries::core_what))]
 fn core_what(words: &[&[u8]]) -> Option<What>
-    ensures { result ≡ spec.core_what (texts words.now) }
+    ensures { result ≡ entries.core_what (texts words.now) }
 {
     if is_at(words, 0, "slice") {
         any_slice_of(words)
@@ -173,7 +174,7 @@ fn core_what(words: &[&[u8]]) -> Option<What>
 /// An order that the script posts.
 fn post_of(words: &[&[u8]], place: u32) -> Option<What>
     ensures { let ws = texts words.now in
-        result ≡ option_map (what.Post place (record { 0 = spec.number_at ws 2 })) (spec.order_of (drop 3 ws)) }
+        result ≡ option_map (what.Post place (record { 0 = spec.number_at ws 2 })) (entries.order_of (drop 3 ws)) }
 {
     match order_of(words_behind(words, 3)) {
         Some(order) => Some(What::Post {
@@ -187,7 +188,7 @@ fn post_of(words: &[&[u8]], place: u32) -> Option<What>
 
 /// A command that is refused.
 fn refused_of(words: &[&[u8]], place: u32) -> Option<What>
-    ensures { result ≡ option_map (what.Refused place) (spec.refusal_of (drop 3 (texts words.now))) }
+    ensures { result ≡ option_map (what.Refused place) (entries.refusal_of (drop 3 (texts words.now))) }
 {
     match refusal_of(words_behind(words, 3)) {
         Some(refusal) => Some(What::Refused { place, refusal }),
@@ -198,7 +199,7 @@ fn refused_of(words: &[&[u8]], place: u32) -> Option<What>
 /// What became of a raise.
 fn raised_of(words: &[&[u8]]) -> Raised
     ensures { let ws = texts words.now in
-        result ≡ spec.raised_of (spec.number_at ws 3) (spec.word_at ws 4) }
+        result ≡ entries.raised_of (spec.number_at ws 3) (spec.word_at ws 4) }
 {
     let number = number_at(words, 3);
     if is_at(words, 4, "pending") {
@@ -211,9 +212,9 @@ fn raised_of(words: &[&[u8]]) -> Raised
 }
 
 /// What the script did, by the words from the number of its line on.
-#[tactic(auto, unfolding(dc_base::specs::JournalText::script_what))]
+#[tactic(auto, unfolding(dc_base::specs::LooseEntries::script_what))]
 fn script_what(words: &[&[u8]]) -> Option<What>
-    ensures { result ≡ spec.script_what (texts words.now) }
+    ensures { result ≡ entries.script_what (texts words.now) }
 {
     let place = number_at(words, 0);
     if is_at(words, 1, "post") {
@@ -254,7 +255,7 @@ fn script_what(words: &[&[u8]]) -> Option<What>
 /// An entry of a core.
 fn core_entry(words: &[&[u8]]) -> Option<Entry>
     ensures { let ws = texts words.now in
-        result ≡ option_map (λ w. record { actor = actor.Core (record { 0 = spec.number_at ws 2 }); what = w }) (spec.core_what (drop 3 ws)) }
+        result ≡ option_map (λ w. record { actor = actor.Core (record { 0 = spec.number_at ws 2 }); what = w }) (entries.core_what (drop 3 ws)) }
 {
     match core_what(words_behind(words, 3)) {
         Some(what) => Some(Entry {
@@ -267,7 +268,7 @@ fn core_entry(words: &[&[u8]]) -> Option<Entry>
 
 /// An entry of the script.
 fn script_entry(words: &[&[u8]]) -> Option<Entry>
-    ensures { result ≡ option_map (λ w. record { actor = actor.Script; what = w }) (spec.script_what (drop 2 (texts words.now))) }
+    ensures { result ≡ option_map (λ w. record { actor = actor.Script; what = w }) (entries.script_what (drop 2 (texts words.now))) }
 {
     match script_what(words_behind(words, 2)) {
         Some(what) => Some(Entry {
@@ -279,9 +280,9 @@ fn script_entry(words: &[&[u8]]) -> Option<Entry>
 }
 
 /// The one entry that a line with these words may spell.
-#[tactic(auto, unfolding(dc_base::specs::JournalText::candidate))]
+#[tactic(auto, unfolding(dc_base::specs::LooseEntries::candidate))]
 pub(crate) fn candidate(words: &[&[u8]]) -> Option<Entry>
-    ensures { result ≡ spec.candidate (texts words.now) }
+    ensures { result ≡ entries.candidate (texts words.now) }
 {
     if is_at(words, 1, "core") {
         core_entry(words)

@@ -4,7 +4,8 @@ ghost use Rattle.std.specs.Prelude.{◌≡◌, ◌+◌, ◌<◌, find, bytes_eq}
 ghost use Rattle.std.specs.Option.{option_map};
 ghost use Rattle.dc_base.specs.declared.calls.End.TheVariants as end;
 ghost use Rattle.dc_base.specs.EntryText.{op_word};
-ghost use Rattle.dc_base.specs.JournalText as spec;
+ghost use Rattle.dc_base.specs.LooseWords as spec;
+ghost use Rattle.dc_base.specs.LooseEntries as entries;
 ghost use Rattle.dc_journal.specs.Lines.{texts};
 
 use crate::names::op_name;
@@ -91,7 +92,7 @@ pub(crate) fn version_of(word: &[u8]) -> Option<Version>
 
 /// How a slice ended, by its word and the next.
 pub(crate) fn end_of(word: &[u8], next: &[u8]) -> Option<End>
-    ensures { result ≡ spec.end_of word.now next.now }
+    ensures { result ≡ entries.end_of word.now next.now }
 {
     if is_word("quantum", word) {
         Some(End::Quantum)
@@ -110,7 +111,7 @@ pub(crate) fn end_of(word: &[u8], next: &[u8]) -> Option<End>
 
 /// The order, by the words from its name on.
 pub(crate) fn order_of(words: &[&[u8]]) -> Option<Order>
-    ensures { result ≡ spec.order_of (texts words.now) }
+    ensures { result ≡ entries.order_of (texts words.now) }
 {
     if is_at(words, 0, "start") {
         version_of(word_at(words, 1)).map(Order::Start)

@@ -3,7 +3,8 @@
 ghost use Rattle.std.specs.Prelude.{◌≡◌};
 ghost use Rattle.std.specs.Option.{option_map};
 ghost use Rattle.dc_base.specs.declared.commands.Refusal.TheVariants as refusal;
-ghost use Rattle.dc_base.specs.JournalText as spec;
+ghost use Rattle.dc_base.specs.LooseWords as spec;
+ghost use Rattle.dc_base.specs.LooseEntries as entries;
 ghost use Rattle.dc_journal.specs.Lines.{texts};
 
 use crate::ends::version_of;
@@ -23,7 +24,7 @@ fn same_version(words: &[&[u8]]) -> Option<Refusal>
 
 /// The refusal, by the words from its name on.
 pub(crate) fn refusal_of(words: &[&[u8]]) -> Option<Refusal>
-    ensures { result ≡ spec.refusal_of (texts words.now) }
+    ensures { result ≡ entries.refusal_of (texts words.now) }
 {
     let core = core_at(words, 1);
     let block = block_at(words, 1);

@@ -2,7 +2,7 @@
 
 ghost use Rattle.std.specs.Prelude.{◌≡◌, ◌+◌, ◌<◌, ◌≤◌, ◌^◌, length, slice_range, bytes_eq};
 ghost use Rattle.dc_base.specs.TextWords.{first_words};
-ghost use Rattle.dc_base.specs.JournalText as spec;
+ghost use Rattle.dc_base.specs.LooseWords as spec;
 ghost use Rattle.dc_text.specs.Places.{IsPlaceIn};
 ghost use Rattle.dc_journal.specs.Lines.{texts};
 

@@ -12,7 +12,8 @@ use Rattle.dc_base.specs.TextWords.{ended, number_of}
 use Rattle.dc_base.specs.ScriptText.{schedule_of, text_read, schedule_line, core_action_line, read_core, read_version, number_below}
 use Rattle.dc_base.specs.EntryText.{entry_text}
 use Rattle.dc_base.specs.EntryRanges.{has_line}
-use Rattle.dc_base.specs.JournalText.{entry_of, candidate, core_what}
+use Rattle.dc_base.specs.LooseEntries.{candidate, core_what}
+use Rattle.dc_base.specs.JournalText.{entry_of}
 use Rattle.dc_restart.specs.declared.drills.DrillLine.TheVariants as line
 use Rattle.dc_restart.specs.declared.drills.DrillEntry.TheVariants as entry
 use Rattle.dc_restart.specs.DrillText.{drill_of, drill_line, drill_entry_text, drill_journal_of, drill_entry_of}

@@ -40,6 +40,7 @@ use Rattle.dc_base.specs.ReportText as reporttext_
 use Rattle.dc_base.specs.PlayText as playtext_
 use Rattle.dc_base.specs.TextWords as textwords_
 use Rattle.dc_base.specs.ScriptText as scripttext_
+use Rattle.dc_base.specs.LooseEntries as looseentries_
 use Rattle.dc_base.specs.JournalText as journaltext_
 use Rattle.dc_base.specs.EntryRanges as entryranges_
 use Rattle.dc_base.specs.ProgramText as programtext_
@@ -88,7 +89,7 @@ read_scripts = tt
 
 -- what journals are read by
 unfoldable pub read_journals : Unit {0}
-unfolding journaltext_.journal_of journaltext_.entry_of journaltext_.candidate journaltext_.core_what journaltext_.script_what
+unfolding journaltext_.journal_of journaltext_.entry_of looseentries_.candidate looseentries_.core_what looseentries_.script_what
     entrytext_.entry_text entryranges_.has_line digits
 read_journals = tt
 

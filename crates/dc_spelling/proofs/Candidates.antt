@@ -10,7 +10,8 @@ use Rattle.dc_base.specs.declared.entries.What.{What}
 use Rattle.dc_base.specs.declared.entries.Entry.{Entry}
 use Rattle.dc_base.specs.EntryText.{actor_words, what_words, entry_text}
 use Rattle.dc_base.specs.EntryRanges.{suits, has_line, is_actor_in_range, is_what_in_range, is_in_range}
-use Rattle.dc_base.specs.JournalText.{candidate, if_spelled, entry_of}
+use Rattle.dc_base.specs.LooseEntries.{candidate}
+use Rattle.dc_base.specs.JournalText.{if_spelled, entry_of}
 use Rattle.dc_spelling.proofs.Numerals.{numbers_read}
 use Rattle.dc_spelling.proofs.EntryWords.{few_words}
 use Rattle.dc_spelling.proofs.EntryLines.{entry_words}

@@ -15,7 +15,8 @@ use Rattle.dc_base.specs.declared.entries.What.TheVariants as what
 use Rattle.dc_base.specs.TextWords.{is_word}
 use Rattle.dc_base.specs.EntryText.{version_word, op_word, end_words, latched_word, adopted_word, what_words}
 use Rattle.dc_base.specs.EntryRanges.{is_empty_end, is_of_core, is_end_in_range, is_what_in_range, are_in_range, is_time}
-use Rattle.dc_base.specs.JournalText.{word_at, last_word, op_of, version_of, end_of, core_what}
+use Rattle.dc_base.specs.LooseWords.{word_at, last_word, op_of, version_of}
+use Rattle.dc_base.specs.LooseEntries.{end_of, core_what}
 use Rattle.dc_spelling.proofs.Numerals.{decimal_is_numeral, byte_read, numbers_read, time_read}
 use Rattle.dc_spelling.proofs.EntryLines.{numeral_first, another_word}
 

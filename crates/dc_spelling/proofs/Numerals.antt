@@ -5,7 +5,7 @@ use Rattle.std.specs.Char.{is_ascii_digit, is_ascii_graphic}
 use Rattle.std.specs.Fmt.{digits, digits_onto, digit_glyph}
 use Rattle.std.proofs.lemmas.Bool.{and_parts, and_from, lt-ltb, ltb-true}
 use Rattle.dc_base.specs.EntryRanges.{are_in_range}
-use Rattle.dc_base.specs.JournalText.{loose_number}
+use Rattle.dc_base.specs.LooseWords.{loose_number}
 use Rattle.dc_spelling.proofs.Reading.{below-decimal}
 use Rattle.dc_spelling.proofs.PlainWords.{are_shown, is_plain}
 

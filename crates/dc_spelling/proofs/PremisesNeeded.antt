@@ -6,7 +6,8 @@ use Rattle.dc_base.specs.declared.entries.What.TheVariants as what
 use Rattle.dc_base.specs.declared.entries.Entry.{Entry}
 use Rattle.dc_base.specs.EntryText.{entry_text, journal_text}
 use Rattle.dc_base.specs.EntryRanges.{has_line}
-use Rattle.dc_base.specs.JournalText.{journal_of, entry_of, candidate, core_what, script_what}
+use Rattle.dc_base.specs.LooseEntries.{candidate, core_what, script_what}
+use Rattle.dc_base.specs.JournalText.{journal_of, entry_of}
 
 -- a block's number of 33 bits
 abbrev out_of_range : List Entry

@@ -13,7 +13,8 @@ use Rattle.dc_base.specs.TextWords.{newline, lines_of, first_words, is_word, end
 use Rattle.dc_base.specs.EntryText.{entry_text, journal_from}
 use Rattle.dc_base.specs.EntryRanges.{has_line, is_in_range}
 use Rattle.dc_base.specs.Journals.{EndsJournal}
-use Rattle.dc_base.specs.JournalText.{candidate, if_spelled, entry_of, said_from, journal_of}
+use Rattle.dc_base.specs.LooseEntries.{candidate}
+use Rattle.dc_base.specs.JournalText.{if_spelled, entry_of, said_from, journal_of}
 use Rattle.dc_spelling.proofs.ReadRanges.{IfThere, candidate_low}
 
 -- the entry has a line, this is it, and its numbers are in range

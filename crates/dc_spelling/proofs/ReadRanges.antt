@@ -17,7 +17,8 @@ use Rattle.dc_base.specs.declared.commands.Refusal.TheVariants as refusal
 use Rattle.dc_base.specs.declared.entries.What.TheVariants as what
 use Rattle.dc_base.specs.TextWords.{is_word}
 use Rattle.dc_base.specs.EntryRanges.{is_time, is_end_in_range, is_what_in_range, is_in_range, are_in_range, order_numbers, refusal_numbers, raised_number}
-use Rattle.dc_base.specs.JournalText.{loose_number, word_at, number_at, last_word, last_number, op_of, version_of, end_of, core_what, order_of, refusal_of, raised_of, script_what, candidate}
+use Rattle.dc_base.specs.LooseWords.{loose_number, word_at, number_at, last_word, last_number, op_of, version_of}
+use Rattle.dc_base.specs.LooseEntries.{end_of, core_what, order_of, refusal_of, raised_of, script_what, candidate}
 
 -- a number that is read is below its limit
 loose_by : (limit n : ℕ) (t u : Bool) → nat_lt n limit ≡ u → nat_lt 0 limit ≡ true → nat_lt (if t && u then n else 0) limit ≡ true

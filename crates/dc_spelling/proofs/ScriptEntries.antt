@@ -10,7 +10,8 @@ use Rattle.dc_base.specs.declared.entries.What.{What}
 use Rattle.dc_base.specs.declared.entries.What.TheVariants as what
 use Rattle.dc_base.specs.EntryText.{order_words, refusal_words, raised_words, what_words}
 use Rattle.dc_base.specs.EntryRanges.{order_numbers, refusal_numbers, raised_number, is_of_script, is_what_in_range}
-use Rattle.dc_base.specs.JournalText.{loose_number, word_at, number_at, order_of, refusal_of, raised_of, script_what}
+use Rattle.dc_base.specs.LooseWords.{loose_number, word_at, number_at}
+use Rattle.dc_base.specs.LooseEntries.{order_of, refusal_of, raised_of, script_what}
 use Rattle.dc_spelling.proofs.Numerals.{AreRead, numbers_read}
 use Rattle.dc_spelling.proofs.CoreEntries.{version_read, parked_read}
 

@@ -1,7 +1,8 @@
 use Rattle.std.proofs.Common.{ap, ◌∙◌, drop}
 use Rattle.std.specs.Option.{option_map}
 use Rattle.dc_base.specs.declared.entries.What.TheVariants as what
-use Rattle.dc_base.specs.JournalText.{script_what, order_of, refusal_of, number_at}
+use Rattle.dc_base.specs.LooseWords.{number_at}
+use Rattle.dc_base.specs.LooseEntries.{script_what, order_of, refusal_of}
 use Rattle.dc_journal.specs.Lines.{texts}
 use Rattle.dc_journal.proofs.Choices.{skip, here}
 use Rattle.dc_journal.proofs.candidates.script_what.Goals as goal
