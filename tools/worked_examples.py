@@ -56,6 +56,7 @@ SOURCES = [
     ("Rattle.dc_base.specs.Changes", "a_core a_block a_channel a_line a_mailbox a_console the_script"),
     ("Rattle.dc_base.specs.Runs", "run"),
     ("Rattle.dc_base.specs.CoreRuns", "core_run"),
+    ("Rattle.dc_base.specs.Origins", "image_origin"),
     ("Rattle.dc_base.specs.Shown", "all_shown_by"),
     ("Rattle.dc_base.specs.Headline", "blocks_reported blocks_held"),
     ("Rattle.dc_rows.specs.Computed", "machine_of_blocks machine_with_cores whole_texts"),
@@ -452,7 +453,7 @@ def defined(name, kind, items, layout=block_of):
 LAWS = [
     "is_judged : judged image script journal ≡ record { is_run = true; shown = Some (all_shown_by report) }\nunfolding machine_of_blocks\nis_judged = refl",
     "-- each entry touches what the table says\nis_tabled : tabled image script schedule ≡ true\nunfolding machine_with_cores\nis_tabled = refl",
-    "-- each block is reported once, on the core that holds it or at rest\nis_none_lost : blocks_reported report ≡ blocks_held image journal\n"
+    "-- each block is reported once, on the core that holds it or at rest\nis_none_lost : blocks_reported report ≡ blocks_held (image_origin image script) journal\n"
     "unfolding machine_of_blocks\nis_none_lost = refl",
     "-- the journal has told what the state shows\nis_told : option_map facts_told (run image script journal)\n"
     "    ≡ option_map (facts_of (core_run image script schedule).state) (run image script journal)\n"

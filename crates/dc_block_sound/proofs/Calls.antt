@@ -114,9 +114,6 @@ module _ (s : State) (d : ℕ) (C : ℕ → Type 0) (x : ControlBlock) (code : L
   moved : Steps s d C x (with_parts x next)
   moved = one s d C x (with_parts x next) (moved_on x code c runs)
 
-  fault : (n : ℕ) → 0 < n → n ≤ 12 → F (faults n)
-  fault n h k = (h, k)
-
   if_call : (t : Bool) (k l : Call) → (t ≡ true → F k) → (t ≡ false → F l) → F (if t then k else l)
   if_call true k l f g = f refl
   if_call false k l f g = g refl

@@ -72,11 +72,6 @@ module _ (f : Block → Block) (blocks : List Block) where
   abbrev after : List Member → State → State
   after share s = apply s (change_all f (map (looked_at blocks) (share_blocks share)))
 
-  longer_case : (m : Member) (ms : List Member) (s : State) (j : ℕ) (z : Block) → (m.block ≡ j → (x : Block) × (slice_get blocks j ≡ Some x) × (z ≡ f x)) → AllCase f blocks ms s j z → (t : Bool) → (m.block == j) ≡ t → AllCase f blocks (m ∷ ms) s j z
-  longer_case m ms s j z own (was_listed h x e q) t g = was_listed (ap (λ u. (m.block == j) || u) h ∙ or-true (m.block == j)) x e q
-  longer_case m ms s j z own (not_listed h e) true g = let p = own (is_same m.block j g) in was_listed (ap (λ u. u || has ms j) g) p.0 p.1 p.2
-  longer_case m ms s j z own (not_listed h e) false g = not_listed (ap (λ u. u || has ms j) g ∙ h) e
-
   back_case : (m : Member) (ms : List Member) (s : State) (x : Block) (j : ℕ) (z : Block) → slice_get blocks m.block ≡ Some x → AllCase f blocks ms (record s { blocks = slice_set s.blocks m.block (f x) }) j z → AllCase f blocks (m ∷ ms) s j z
   back_case m ms s x j z h (was_listed l y e q) = was_listed (ap (λ u. (m.block == j) || u) l ∙ or-true (m.block == j)) y e q
   back_case m ms s x j z h (not_listed l e) = by_set (set_case s.blocks m.block (f x) j z e)

@@ -170,10 +170,6 @@ keeps_dispatchers s d C x y st h = record { code = h.code; regs = h.regs; places
 first_length : (ms : List Message) (n : ℕ) → length ms ≤ n → (m : Message) (more : List Message) → ms ≡ m ∷ more → length more ≤ n
 first_length ms n h m more e = let l : length ms ≡ suc (length more) = ap length e in omega (arith, l, h)
 
--- the messages of a port that is there
-messages_are : (ports : List (List Message)) (p : ℕ) (ms : List Message) → slice_get ports p ≡ Some ms → messages_in ports p ≡ ms
-messages_are ports p ms e = ap elements e
-
 each_port : (ports : List (List Message)) → Each ports (λ p ms. length ms ≤ 8) → (p : ℕ) → length (messages_in ports p) ≤ 8
 each_port ports h p = by_port (slice_get ports p) refl
   where

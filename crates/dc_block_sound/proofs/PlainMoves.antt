@@ -21,9 +21,6 @@ pub and_right : (t u : Bool) → (t && u) ≡ true → u ≡ true
 and_right true u h = h
 and_right false u h = absurd cc
 
-pub some_same : {A : Type 0} {x y : A} → Some x ≡ Some y → x ≡ y
-some_same e = cc
-
 -- a word of a list, or 0 past its end
 pub index_word : (ws : List ℕ) (i : ℕ) → AreWords ws → get_or ws i 0 < 2 ^ 32
 index_word [] i h = omega arith

@@ -101,14 +101,6 @@ module _ (h : Seat) where
   each_put P [] p all = each_cons (λ i. P) h [] p all
   each_put P (k ∷ ks) p all = put_by k ks P p all (each_put P ks p (λ i a e. all (suc i) a e)) (nat_lt h.slot k.slot)
 
-  pub in_put : (caps : List Seat) → In (with_seat h caps) h
-  in_put [] = (0, refl)
-  in_put (k ∷ ks) = by_test (nat_lt h.slot k.slot) (in_put ks)
-    where
-      by_test : (t : Bool) → In (with_seat h ks) h → In (if t then h ∷ k ∷ ks else k ∷ with_seat h ks) h
-      by_test true w = (0, refl)
-      by_test false w = in_later k (with_seat h ks) h w
-
   pub still_in : (caps : List Seat) (g : Seat) (i : ℕ) → slice_get caps i ≡ Some g → In (with_seat h caps) g
   still_in [] g i e = absurd cc
   still_in (k ∷ ks) g zero e = by_test (nat_lt h.slot k.slot)
@@ -129,10 +121,6 @@ module _ (h : Seat) where
 
   abbrev slot_of : Seat → ℕ
   slot_of k = k.slot
-
-  -- a slot that is free has no seat
-  free_apart : (caps : List Seat) → is_used caps h.slot ≡ false → (i : ℕ) (k : Seat) → slice_get caps i ≡ Some k → k.slot ≡ h.slot → ⊥
-  free_apart caps f i k e same = let u : is_used caps h.slot ≡ true = subst (λ q. is_used caps q ≡ true) same (there_used caps k i e) in let z : false ≡ true = sym f ∙ u in cc
 
   pub ascends_put : (caps : List Seat) → ((i : ℕ) (k : Seat) → slice_get caps i ≡ Some k → k.slot ≡ h.slot → ⊥) → Ascends slot_of caps → Ascends slot_of (with_seat h caps)
   ascends_put [] apart asc = ascends_cons slot_of h [] (each_nil _) asc

@@ -121,10 +121,6 @@ one_if t = if t then 1 else 0
 one_other : (m n : ℕ) → (m ≡ n → ⊥) → one_if (m == n) ≡ 0
 one_other m n h = ap (λ (t : Bool). one_if t) (other_is m n h)
 
-one_most : (t : Bool) → one_if t ≤ 1
-one_most true = omega arith
-one_most false = omega arith
-
 count_in-cons : (m : Member) (ms : List Member) (b : ℕ) → count_in (m ∷ ms) b ≡ one_if (m.block == b) + count_in ms b
 count_in-cons m ms b = sum_by-cons (λ (m : Member). one_if (m.block == b)) m ms
 

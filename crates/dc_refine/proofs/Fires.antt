@@ -47,9 +47,6 @@ unfolding fire_in
 fire_in-at time ws x t h = ap (λ o. bind o (λ t. Some (after_fire (plain time ws x) t))) h ∙ ap Some (sym (plain-after_firing time ws t x))
 
 module _ (time : ℕ) (ws : List ℕ) (b : ℕ) where
-  FiresAs : ControlBlock → Fired → Type 0
-  FiresAs x f = LeadsIn b (plain time ws x) (replicate f.count (fire b)) (plain time ws f.control)
-
   fires_by : (x : ControlBlock) (further : ControlBlock → Fired) → ((y : ControlBlock) → LeadsIn b (plain time ws y) (replicate (further y).count (fire b)) (plain time ws (further y).control)) → (o : Option Timer) → due_timer time x.parts.timers ≡ o →
       LeadsIn b (plain time ws x) (replicate (fire_if further x o).count (fire b)) (plain time ws (fire_if further x o).control)
   fires_by x further more None e = leads_in_none b (plain time ws x)

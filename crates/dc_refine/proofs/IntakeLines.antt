@@ -118,9 +118,6 @@ module _ (s : State) (t : Blocks) (l b signal m : ℕ) (x : Block) (ws : List �
     add_one : (n : ℕ) → suc n ≡ n + 1
     add_one n = omega arith
 
-    Holder : ℕ → ℕ → Type 0
-    Holder n k = (c : ℕ) × (j : ℕ) × (signal_of u c j ≡ Some (line_latch n (k + 1)))
-
     to_signal : (n k : ℕ) → ((n ≡ l) × (k ≡ m)) ⊎ (fate_at t n k ≡ Some latched) → (c : ℕ) × (j : ℕ) × (signal_of u c j ≡ Some (line_latch n (k + 1)))
     to_signal n k (inl e) = (b, signal, there ∙ ap (λ v. Some (line_latch v (suc m))) (sym e.0) ∙ ap (λ v. Some (line_latch n (suc v))) (sym e.1) ∙ ap (λ v. Some (line_latch n v)) (add_one k))
     to_signal n k (inr h) = let r = (here.stands.latches.agree n k).0 h in (r.0, r.1, stays (line_latch n (k + 1)) r.0 r.1 r.2)

@@ -1,6 +1,6 @@
 -- What a list has among its elements, and its least number.
 use Rattle.std.proofs.Common.{◌≡◌, ℕ, ◌<◌, ◌≤◌, List, [], ◌∷◌, ◌++◌, Bool, true, false, Option, Some, None, refl, sym, ap, ◌∙◌, subst, map, arith, inl, inr, ◌⊎◌}
-use Rattle.std.specs.Prelude.{find, filter, nat_lt, if◌then◌else◌}
+use Rattle.std.specs.Prelude.{find, nat_lt, if◌then◌else◌}
 use Rattle.std.specs.List.{flat_map}
 use Rattle.std.proofs.lemmas.Bool.Decides.{nat_tests}
 use Rattle.dc_base.specs.Words.{least, lesser}
@@ -60,16 +60,6 @@ pub none_found : {A : Type 0} (p : A → Bool) (xs : List A) (x : A) → find p 
 none_found p [] x h g = absurd g
 none_found p (z ∷ xs) x h (inl e) = ap p e ∙ (found_none z (p z) (find p xs) h).0
 none_found p (z ∷ xs) x h (inr g) = none_found p xs x (found_none z (p z) (find p xs) h).1 g
-
--- a filtered list
-filter_by : {A : Type 0} (p : A → Bool) (z x : A) (xs ys : List A) → (In x ys → In x xs × (p x ≡ true)) → (t : Bool) → p z ≡ t → In x (if t then z ∷ ys else ys) → In x (z ∷ xs) × (p x ≡ true)
-filter_by p z x xs ys more true e (inl f) = (inl f, ap p f ∙ e)
-filter_by p z x xs ys more true e (inr g) = let r = more g in (inr r.0, r.1)
-filter_by p z x xs ys more false e g = let r = more g in (inr r.0, r.1)
-
-pub in_filter : {A : Type 0} (p : A → Bool) (xs : List A) (x : A) → In x (filter p xs) → In x xs × (p x ≡ true)
-in_filter p [] x h = absurd h
-in_filter p (z ∷ xs) x h = filter_by p z x xs (filter p xs) (λ g. in_filter p xs x g) (p z) refl h
 
 -- the least number
 least_listed : (n : ℕ) (ns : List ℕ) (o : Option ℕ) (m : ℕ) → (least ns ≡ Some m → In m ns) → least ns ≡ o → Some (lesser n o) ≡ Some m → In m (n ∷ ns)

@@ -5,7 +5,7 @@ use Rattle.dc_base.specs.Words.{bind, Each}
 use Rattle.dc_base.specs.Channels.{Channel, Ring}
 use Rattle.dc_base.specs.Lines.{Line, Wire, Counts, latched, line_latch, pending_in}
 use Rattle.dc_base.specs.Parts.{Parts}
-use Rattle.dc_base.specs.Blocks.{Blocks, Life}
+use Rattle.dc_base.specs.Blocks.{Blocks}
 use Rattle.dc_base.specs.Blocks as blocks
 use Rattle.dc_base.specs.States.{State, Block, time_of, idle_wire}
 use Rattle.dc_base.specs.Shown.{life_of}
@@ -46,9 +46,6 @@ ring_unsent r h =
     ∙ ap (λ n. record { capacity = r.capacity; untaken = []; sent = 0; taken = n }) h.taken
 
 module _ (s : State) (opening : IsOpening s) where
-  abbrev opened : List blocks.Block
-  opened = map (block_opened s.cores) s.blocks
-
   blocks_agree : BlocksAgree s (blocks_opened s)
   unfolding blocks_opened
   blocks_agree = record {

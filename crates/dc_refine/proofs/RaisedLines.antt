@@ -44,12 +44,6 @@ counts_push fs f =
     let r : length (fs ++ f ∷ []) ≡ length fs + 1 = length-append fs (f ∷ []) in
     let a = count_push is_stray fs f in let b = count_push is_merged fs f in let c = count_push is_latched fs f in let d = count_push is_delivered fs f in let e = count_push is_joined fs f in cc
 
-plus_none : {n : ℕ} → n + 0 ≡ n
-plus_none = omega arith
-
-given_none : (a b : ℕ) → (a + 0) + (b + 0) ≡ a + b
-given_none a b = omega arith
-
 -- one raise more is counted alike
 raised_counts : (w : Wire) (fs : List Fate) → w.counts ≡ counts_of fs → (b : Option (ℕ × ℕ)) (n : Option ℕ) → (wire_after w b n).counts ≡ counts_of (fs ++ fate_of b n ∷ [])
 raised_counts w fs e None n =

@@ -21,9 +21,6 @@ comm_two a b rest false false e f =
 lt_false : (a b : ℕ) → b ≤ a → nat_lt a b ≡ false
 lt_false a b h = grind (arith, nat_tests)
 
-lt_true : (a b : ℕ) → a < b → nat_lt a b ≡ true
-lt_true a b h = grind (arith, nat_tests)
-
 comm_more : (a b m : ℕ) (ms : List ℕ) → with_number a (with_number b ms) ≡ with_number b (with_number a ms) → (am bm : Bool) → nat_lt a m ≡ am → nat_lt b m ≡ bm →
     with_number a (if bm then b ∷ m ∷ ms else m ∷ with_number b ms) ≡ with_number b (if am then a ∷ m ∷ ms else m ∷ with_number a ms)
 comm_more a b m ms more true true e f = rw (e, f) (comm_two a b (m ∷ ms) (nat_lt a b) (nat_lt b a) refl refl)

@@ -14,6 +14,7 @@ use Rattle.dc_base.specs.declared.reports.ReportLine.{ReportLine}
 use Rattle.dc_base.specs.declared.dispatchers.DispState.TheVariants as state
 use Rattle.dc_base.specs.Runs.{run}
 use Rattle.dc_base.specs.CoreRuns.{core_run}
+use Rattle.dc_base.specs.Origins.{image_origin}
 use Rattle.dc_base.specs.Shown.{all_shown_by}
 use Rattle.dc_base.specs.Headline.{blocks_reported, blocks_held}
 use Rattle.dc_rows.specs.Computed.{machine_of_blocks, machine_with_cores, whole_texts}
@@ -128,7 +129,7 @@ unfolding machine_with_cores
 is_tabled = refl
 
 -- each block is reported once, on the core that holds it or at rest
-is_none_lost : blocks_reported report ≡ blocks_held image journal
+is_none_lost : blocks_reported report ≡ blocks_held (image_origin image script) journal
 unfolding machine_of_blocks
 is_none_lost = refl
 

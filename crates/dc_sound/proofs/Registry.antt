@@ -1,8 +1,8 @@
 -- The boot state of the cores and blocks after entries that are no orders.
-use Rattle.std.proofs.Common.{◌≡◌, ℕ, zero, suc, ◌+◌, ◌≤◌, List, [], ◌∷◌, ◌++◌, Bool, true, false, Some, None, refl, sym, ap, ◌∙◌, subst, arith, map}
+use Rattle.std.proofs.Common.{◌≡◌, ℕ, ◌+◌, ◌≤◌, List, [], ◌∷◌, ◌++◌, Bool, true, false, Some, None, refl, sym, ap, ◌∙◌, subst, arith, map}
 use Rattle.std.proofs.lemmas.Bool.Decides.{nat_tests}
 use Rattle.std.proofs.lemmas.List.Sums.{sum_by-cons, sum_by-append}
-use Rattle.std.specs.Prelude.{slice_get, slice_set, nat_lt, ◌==◌, not, if◌then◌else◌}
+use Rattle.std.specs.Prelude.{nat_lt, ◌==◌, not, if◌then◌else◌}
 use Rattle.std.specs.List.{filter}
 use Rattle.std.specs.Option.{option_map}
 use Rattle.dc_base.specs.Outcomes.{share_with_last}
@@ -107,12 +107,6 @@ pub boot_turned : (k : Core) (b clock : ℕ) → ((ms : List Member) → homes_i
 boot_turned k b clock sums h =
     ap (λ o. option_map (λ v. record { version = v; home = o; parked = parked_blocks (share_with_last b k.share) }) k.version) (home_parted (λ (m : Member). m.block == b) sums k.share h)
     ∙ ap (λ l. option_map (λ v. record { version = v; home = home_block k.share; parked = l }) k.version) (parked_parted (λ (m : Member). m.block == b) k.share)
-
--- an element that is read alike
-pub map_set : {A B : Type 0} (f : A → B) (xs : List A) (i : ℕ) (x y : A) → slice_get xs i ≡ Some x → f y ≡ f x → map f (slice_set xs i y) ≡ map f xs
-map_set f [] i x y h e = refl
-map_set f (a ∷ xs) zero x y h e = let g : a ≡ x = cc in ap (λ b. b ∷ map f xs) (e ∙ ap f (sym g))
-map_set f (a ∷ xs) (suc i) x y h e = ap (λ l. f a ∷ l) (map_set f xs i x y h e)
 
 -- the boot state, where one core and one block are read alike
 pub boot_same : (s t : State) → map booted_of t.cores ≡ map booted_of s.cores → map (λ (x : Block). core_in x.whereabouts) t.blocks ≡ map (λ (x : Block). core_in x.whereabouts) s.blocks → boot_of t ≡ boot_of s

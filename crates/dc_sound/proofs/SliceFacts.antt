@@ -1,108 +1,23 @@
--- What a slice leaves as it was, and what becomes of the object that its call needed.
+-- What becomes of the object that the call of a slice needed.
 use Rattle.dc_base.specs.NeedsHere.{need_here}
-use Rattle.std.proofs.Common.{◌≡◌, ℕ, zero, suc, List, [], ◌∷◌, ◌++◌, Bool, true, false, Option, Some, None, refl, sym, ap, ◌∙◌, inl, inr, subst}
+use Rattle.std.proofs.Common.{◌≡◌, ℕ, List, [], ◌∷◌, ◌++◌, Bool, true, false, Option, Some, None, refl, sym, inl, inr, subst}
 use Rattle.std.specs.Prelude.{slice_get, if◌then◌else◌, nat_lt, length, ⊤}
 use Rattle.dc_base.specs.declared.calls.Need.{Need}
 use Rattle.dc_base.specs.declared.calls.Need.TheVariants as needs
 use Rattle.dc_base.specs.declared.calls.Op.{Op}
-use Rattle.dc_base.specs.declared.dispatchers.DispState.{DispState}
-use Rattle.dc_base.specs.declared.interrupts.Latch.{Latch}
-use Rattle.dc_base.specs.declared.interrupts.Timer.{Timer}
-use Rattle.dc_base.specs.declared.dispatchers.Wait.{Wait}
 use Rattle.dc_base.specs.declared.messages.Message.{Message}
 use Rattle.dc_base.specs.declared.kernels.Version.{Version}
-use Rattle.dc_base.specs.declared.kernels.Version.TheVariants as version
-use Rattle.dc_base.specs.Ahead.{Ahead, AheadEnd, at_quantum, at_halt, at_trap, at_call, ahead}
 use Rattle.dc_base.specs.Channels.{Ring, ring_after_send, ring_after_take}
 use Rattle.dc_base.specs.ControlBlocks.{ControlBlock}
-use Rattle.dc_base.specs.Effects.{Context}
-use Rattle.dc_base.specs.Firing.{wake, wake_if, latch_in, after_firing, fire_if, fire_from, fire_all}
 use Rattle.dc_base.specs.Kernel.{Call, faults, waits, makes, takes, prints, sends, receives, binds, gives, claims}
 use Rattle.dc_base.specs.Lines.{Wire, rights_over}
 use Rattle.dc_base.specs.Parts.{Parts}
-use Rattle.dc_base.specs.Serving.{need, Outside, console_outside, channel_outside, line_outside, Served, faulted, held_up, served, serve, serve_send, serve_receive, serve_claim, nothing_outside}
-use Rattle.dc_base.specs.Slices.{Halfway, stopped, stands, need_of, after_served, after_ahead, halfway, due_after, slice_end, without_ready}
+use Rattle.dc_base.specs.Serving.{need, Outside, console_outside, channel_outside, line_outside, Served, faulted, served, serve, serve_send, serve_receive, serve_claim, nothing_outside}
+use Rattle.dc_base.specs.Slices.{Halfway, stopped, stands, need_of, after_served, slice_end}
 use Rattle.dc_base.specs.States.{State, Settings}
 use Rattle.dc_base.specs.Steps.{as_console, as_channel, as_line, outside_change}
-use Rattle.dc_base.specs.Timers.{due_timer}
-use Rattle.dc_base.specs.Words.{bind}
 use Rattle.dc_block_sound.proofs.OutsideAt.{outside_at, here_or_none}
 use Rattle.dc_sound.proofs.Rules.{Rule, Obeys, Fine}
-
--- a reading of a control block that firing, waking and running leave as it was
-pub record Stays {A : Type 0} (f : ControlBlock → A) : Type 0 where
-  pub parts_ready : (x : ControlBlock) (p : Parts) (ss : List DispState) (rs : List ℕ) → f (record x { parts = p; states = ss; ready = rs }) ≡ f x
-  pub dues : (x : ControlBlock) (ds : List ℕ) → f (record x { dues = ds }) ≡ f x
-
-module _ {A : Type 0} (f : ControlBlock → A) (stays : Stays f) where
-  pub latch_stays : (s : ℕ) (l : Latch) (x : ControlBlock) → f (latch_in s l x) ≡ f x
-  unfolding latch_in wake
-  latch_stays s l x = stays.parts_ready x _ _ _
-
-  fire_stays : (t : Timer) (x : ControlBlock) → f (after_firing t x) ≡ f x
-  fire_stays t x = latch_stays _ _ _ ∙ stays.parts_ready x _ _ _
-
-  fired_by : (time n : ℕ) (x : ControlBlock) → ((y : ControlBlock) → f (fire_from time n y).control ≡ f y) → (o : Option Timer) → f (fire_if (fire_from time n) x o).control ≡ f x
-  fired_by time n x more None = refl
-  fired_by time n x more (Some t) = more (after_firing t x) ∙ fire_stays t x
-
-  from_stays : (time n : ℕ) (x : ControlBlock) → f (fire_from time n x).control ≡ f x
-  from_stays time zero x = refl
-  from_stays time (suc n) x = fired_by time n x (λ y. from_stays time n y) (due_timer time x.parts.timers)
-
-  pub fire_all-stays : (time : ℕ) (x : ControlBlock) → f (fire_all time x).control ≡ f x
-  unfolding fire_all
-  fire_all-stays time x = from_stays time _ x
-
-  if_stays : (w : Option Wait) (x : ControlBlock) → f (wake_if w x) ≡ f x
-  unfolding wake
-  if_stays None x = refl
-  if_stays (Some w) x = stays.parts_ready x _ _ _
-
-  due_stays : (v : Version) (d : ℕ) (x : ControlBlock) → f (due_after v d x) ≡ f x
-  due_stays version.Rr d x = refl
-  due_stays version.Edf d x = stays.dues x _
-
-  answer_stays : (x : ControlBlock) (d ran : ℕ) (o : Op) (n : Need) (out : Outside) (a : Served) → f (after_served x d ran o n out a).control ≡ f x
-  answer_stays x d ran o n out (faulted y) = stays.parts_ready x _ _ _
-  answer_stays x d ran o n out (held_up w) = stays.parts_ready x _ _ _
-  answer_stays x d ran o n out (served w p new) = stays.parts_ready (wake_if w (record x { parts = p })) _ _ _ ∙ if_stays w _ ∙ stays.parts_ready x _ _ _
-
-  abbrev control_at_half : Halfway → ControlBlock
-  control_at_half (stopped x ran e) = x
-  control_at_half (stands x ran o call) = x
-
-  end_stays : (c n : ℕ) (v : Version) (d : ℕ) (h : Halfway) (out : Outside) → f (slice_end c n v d h out).control ≡ f (control_at_half h)
-  unfolding slice_end
-  end_stays c n v d (stopped x ran e) out = due_stays v d x
-  end_stays c n v d (stands x ran o call) out = due_stays v d _ ∙ answer_stays x d ran o (need call) out (serve c n call out)
-
-  ahead_stays : (time : ℕ) (x : ControlBlock) (d : ℕ) (a : Ahead) (e : AheadEnd) → f (control_at_half (after_ahead time x d a e)) ≡ f x
-  ahead_stays time x d a at_quantum = stays.parts_ready x _ _ _
-  ahead_stays time x d a at_halt = stays.parts_ready x _ _ _
-  ahead_stays time x d a (at_trap y) = stays.parts_ready x _ _ _
-  ahead_stays time x d a (at_call o i) = stays.parts_ready x _ _ _
-
-  context_by : (quantum time : ℕ) (x : ControlBlock) (d : ℕ) (h : Halfway) (code : List ℕ) (o : Option Context) →
-      bind o (λ c. Some (after_ahead time x d (ahead time code quantum c x.parts.memory) (ahead time code quantum c x.parts.memory).end)) ≡ Some h → f (control_at_half h) ≡ f x
-  context_by quantum time x d h code None e = absurd cc
-  context_by quantum time x d h code (Some c) e =
-      let a = ahead time code quantum c x.parts.memory in
-      let same : after_ahead time x d a a.end ≡ h = cc in
-      ap (λ g. f (control_at_half g)) (sym same) ∙ ahead_stays time x d a a.end
-
-  code_by : (quantum time : ℕ) (x : ControlBlock) (d : ℕ) (h : Halfway) (o : Option (List ℕ)) →
-      bind o (λ code. bind (slice_get x.parts.contexts d) (λ c. Some (after_ahead time x d (ahead time code quantum c x.parts.memory) (ahead time code quantum c x.parts.memory).end))) ≡ Some h → f (control_at_half h) ≡ f x
-  code_by quantum time x d h None e = absurd cc
-  code_by quantum time x d h (Some code) e = context_by quantum time x d h code (slice_get x.parts.contexts d) e
-
-  half_stays : (quantum time : ℕ) (x : ControlBlock) (d : ℕ) (h : Halfway) → halfway quantum time x d ≡ Some h → f (control_at_half h) ≡ f x
-  unfolding halfway
-  half_stays quantum time x d h e = code_by quantum time x d h (slice_get x.parts.code d) e
-
-  -- a whole slice
-  pub slice_stays : (quantum time c n : ℕ) (v : Version) (x : ControlBlock) (d : ℕ) (h : Halfway) (out : Outside) → halfway quantum time (without_ready d (fire_all time x).control) d ≡ Some h → f (slice_end c n v d h out).control ≡ f x
-  slice_stays quantum time c n v x d h out e = end_stays c n v d h out ∙ half_stays quantum time _ d h e ∙ stays.parts_ready (fire_all time x).control _ _ _ ∙ fire_all-stays time x
 
 -- what the calls that need an object outside may do with it
 pub record OutsideLaws (R : Rule) (s : State) (c b : ℕ) (call : Call) : Type 0 where

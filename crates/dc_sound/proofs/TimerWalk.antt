@@ -228,9 +228,6 @@ module _ (T U : List Timer → ℕ → List (Option Latch) → Type 0) (Fit : Co
   serve_has c n (claims l x slot p) out h = tt
 
   module _ (dues periods : List ℕ) where
-    weak_has : (x : ControlBlock) → Has T dues periods x → Has U dues periods x
-    weak_has x h = record { dues_are = h.dues_are; periods_are = h.periods_are; timers = laws.weaker _ _ _ h.timers }
-
     abbrev HalfHas : Halfway → Type 0
     HalfHas (stopped x ran e) = Has U dues periods x
     HalfHas (stands x ran o call) = Has T dues periods x × CallHas call

@@ -45,15 +45,16 @@ use Rattle.dc_base.specs.Slices.{Halfway, stopped, stands, halfway, need_of, sli
 use Rattle.dc_base.specs.Sound.{IsSound}
 use Rattle.dc_base.specs.States.{State, Core, Block, Member, Mailbox, empty, order, ack, Script, Settings, Whereabouts, rest, on, time_on}
 use Rattle.dc_base.specs.Steps.{look_outside, slice_outcome, finish_slice, slice_picked, slice_from, slice_turn, step_on, is_runnable}
-use Rattle.dc_base.specs.TouchTable.{needed}
+use Rattle.dc_base.specs.CoreTouches.{needed}
 use Rattle.dc_base.specs.Turns.{Outcome, did, not_enabled, spent, Looked, Turn, ends, look_block, look_blocks, looked_at, outcome, looks}
 use Rattle.dc_base.specs.Wakes.{wake_sender, wake_receiver, wake_waiting, wake_in, wake_turn}
 use Rattle.dc_base.specs.Histories.{Listed}
+use Rattle.dc_block_sound.proofs.Calls.{CallFits}
+use Rattle.dc_block_sound.proofs.ControlSteps.{kept_by}
+use Rattle.dc_block_sound.proofs.Walks.{HalfFits}
 use Rattle.dc_sound.proofs.BlockNaming.{keeps_names, held_names}
-use Rattle.dc_sound.proofs.Calls.{CallFits}
-use Rattle.dc_sound.proofs.ControlSteps.{kept_by}
 use Rattle.dc_sound.proofs.EntryKinds.{HasTurn, IsSlice, after_timers, outside_comes, found}
-use Rattle.dc_sound.proofs.Walks.{HalfFits, slice_half}
+use Rattle.dc_sound.proofs.SliceWalks.{slice_half}
 use Rattle.dc_refine.proofs.OrderCores.{first_core, later_core}
 
 -- each of these objects exists

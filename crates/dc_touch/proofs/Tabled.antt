@@ -11,7 +11,9 @@ use Rattle.dc_base.specs.States.{State, Core, Member}
 use Rattle.dc_base.specs.Changes.{Name, Change}
 use Rattle.dc_base.specs.Turns.{Outcome, did, not_enabled, spent, Turn, ends, outcome, looks}
 use Rattle.dc_base.specs.Outcomes.{by_core, by_script, if_on, if_here, has}
-use Rattle.dc_base.specs.TouchTable.{core_touches, script_touches, touched_by_core, tabled_touches}
+use Rattle.dc_base.specs.CoreTouches.{core_touches}
+use Rattle.dc_base.specs.ScriptTouches.{script_touches}
+use Rattle.dc_base.specs.TouchTable.{touched_by_core, tabled_touches}
 
 module _ (s : State) (chs : List Change) (e : Entry) where
   -- after looks at these, the turn looks at the rest of what the table says of the entry, if it makes that

@@ -21,7 +21,7 @@ use Rattle.dc_base.specs.States.{State, Mailbox, empty, ack}
 use Rattle.dc_base.specs.Changes.{Name, a_line, a_mailbox, a_console, the_script, Change, mailbox_becomes}
 use Rattle.dc_base.specs.Turns.{did, not_enabled, Turn, ends}
 use Rattle.dc_base.specs.Commands.{post_or_done, begin, with_ack, go_on_from, boot_turn, route_line, poll, await_outcome, command_turn, raise_above, after_raises, script_turn}
-use Rattle.dc_base.specs.TouchTable.{orders_of, box_of, emptied}
+use Rattle.dc_base.specs.ScriptTouches.{orders_of, box_of, emptied}
 use Rattle.dc_touch.proofs.Tabled.{IsTabled, refused, made_by_script, seen, either, either_end}
 
 module _ (s : State) (chs : List Change) (e : Entry) where

@@ -14,12 +14,12 @@ use Rattle.dc_base.specs.Policies.{pick}
 use Rattle.dc_base.specs.States.{State, Core, Block, Whereabouts, rest, on, time_at, time_on}
 use Rattle.dc_base.specs.Firing.{fire_all}
 use Rattle.dc_base.specs.Serving.{Outside, nothing_outside}
-use Rattle.dc_base.specs.Slices.{Halfway, halfway, need_of, slice_end, without_ready}
+use Rattle.dc_base.specs.Slices.{Halfway, need_of, slice_end}
 use Rattle.dc_base.specs.Changes.{Name, a_core, a_channel, a_line, a_console, Change}
 use Rattle.dc_base.specs.Turns.{spent, Looked, Turn, ends, look_blocks, looked_at}
 use Rattle.dc_base.specs.Outcomes.{share_blocks, if_on}
 use Rattle.dc_base.specs.Steps.{as_console, as_channel, as_line, look_outside, slice_outcome, finish_slice, slice_picked, slice_from, slice_turn, is_runnable, next_due, idle_outcome, step_on, step_turn}
-use Rattle.dc_base.specs.TouchTable.{with_share, needed, half_needs, slice_needs}
+use Rattle.dc_base.specs.CoreTouches.{with_share, needed, half_needs, half_slice, slice_needs}
 use Rattle.dc_touch.proofs.Tabled.{IsTabled, refused, ran_out, made_by_core, seen, either, when_on}
 
 -- the block that is found is in the state
@@ -44,15 +44,11 @@ module _ (s : State) (chs : List Change) (e : Entry) where
   outside_tabled b (needs.Line l) ns next t = seen s chs e ns (a_line l.0 ∷ []) (next (as_line (slice_get s.lines l.0))) (t (as_line (slice_get s.lines l.0)))
 
   module _ (c : ℕ) (k : Core) (here : slice_get s.cores c ≡ Some k) where
-    -- how far the slice comes at this time
-    abbrev comes_to : Block → ℕ → ℕ → Option Halfway
-    comes_to x d time = halfway k.settings.quantum time (without_ready d (fire_all time x.control).control) d
-
-    needs_tabled : (b d : ℕ) (x : Block) (time : ℕ) (h : Halfway) → slice_get s.blocks b ≡ Some x → time_at k.clock x.whereabouts ≡ time → comes_to x d time ≡ Some h →
+    needs_tabled : (b d : ℕ) (x : Block) (time : ℕ) (h : Halfway) → slice_get s.blocks b ≡ Some x → time_at k.clock x.whereabouts ≡ time → half_slice k.settings.quantum time x.control d ≡ Some h →
         slice_needs k b d (slice_get s.blocks b) ≡ needed b (need_here k.settings (need_of h))
-    needs_tabled b d x time h hb ht hh = ap (slice_needs k b d) hb ∙ ap (λ t. half_needs k.settings b (comes_to x d t)) ht ∙ ap (half_needs k.settings b) hh
+    needs_tabled b d x time h hb ht hh = ap (slice_needs k b d) hb ∙ ap (λ t. half_needs k.settings b (half_slice k.settings.quantum t x.control d)) ht ∙ ap (half_needs k.settings b) hh
 
-    finish_tabled : (b : ℕ) (x : Block) (v : Version) (d count time : ℕ) → slice_get s.blocks b ≡ Some x → time_at k.clock x.whereabouts ≡ time → (o : Option Halfway) → comes_to x d time ≡ o →
+    finish_tabled : (b : ℕ) (x : Block) (v : Version) (d count time : ℕ) → slice_get s.blocks b ≡ Some x → time_at k.clock x.whereabouts ≡ time → (o : Option Halfway) → half_slice k.settings.quantum time x.control d ≡ o →
         IsTabled s chs e (with_share c k) (finish_slice c k b x v d count o)
     finish_tabled b x v d count time hb ht None hh = refused s chs e _
     finish_tabled b x v d count time hb ht (Some h) hh =
@@ -63,7 +59,7 @@ module _ (s : State) (chs : List Change) (e : Entry) where
     picked_tabled : (b : ℕ) (x : Block) (time : ℕ) (v : Version) → slice_get s.blocks b ≡ Some x → time_at k.clock x.whereabouts ≡ time → (o : Option ℕ) →
         IsTabled s chs e (with_share c k) (slice_picked c k b x time v (fire_all time x.control) o)
     picked_tabled b x time v hb ht None = made_by_core s chs e c k here (with_share c k) _ (what.SliceNone (record { 0 = b }) _ _) (IsPermutation-refl _)
-    picked_tabled b x time v hb ht (Some d) = finish_tabled b x v d (fire_all time x.control).count time hb ht (comes_to x d time) refl
+    picked_tabled b x time v hb ht (Some d) = finish_tabled b x v d (fire_all time x.control).count time hb ht (half_slice k.settings.quantum time x.control d) refl
 
     from_tabled : (b : ℕ) (x : Block) → slice_get s.blocks b ≡ Some x → (w : Whereabouts) → x.whereabouts ≡ w → IsTabled s chs e (with_share c k) (slice_from c k b x w)
     from_tabled b x hb (rest kept) hw = refused s chs e _

@@ -15,7 +15,7 @@ use Rattle.dc_base.specs.Changes.{Name, a_core, a_block, a_channel, Change}
 use Rattle.dc_base.specs.Turns.{not_enabled, ends, spent, look_block}
 use Rattle.dc_base.specs.Outcomes.{if_on, if_here}
 use Rattle.dc_base.specs.Wakes.{after_wake, wake_sender, wake_receiver, wake_waiting, wake_in, wake_turn}
-use Rattle.dc_base.specs.TouchTable.{channel_of}
+use Rattle.dc_base.specs.CoreTouches.{channel_of}
 use Rattle.dc_touch.proofs.Tabled.{IsTabled, refused, ran_out, made_by_core, either, either_end, when_on, when_here}
 
 module _ (s : State) (chs : List Change) (e : Entry) (c : ℕ) (k : Core) (here : slice_get s.cores c ≡ Some k) (b d : ℕ) where
