@@ -8,10 +8,10 @@ ghost use Rattle.dc_isa.specs.Labels.{label_list, capped};
 ghost use Rattle.dc_isa.specs.Operations.{operand_seen, limit, most};
 
 use crate::labels::Labels;
-use crate::numbers::number;
 use crate::operations::Operand;
 use crate::scan::first_word;
 use dc_base::faults::AsmKind;
+use dc_text::number;
 
 /// The number behind the first byte of a word.
 #[tactic(auto, unfolding(dc_base::specs::TextWords::number_of))]
