@@ -3,4 +3,5 @@ pub mod Commas
 pub mod Numbers
 mod Scanning
 mod Texts
-pub mod TextLines
+mod TextLines
+pub mod Joining
