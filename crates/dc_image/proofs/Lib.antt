@@ -1,4 +1,3 @@
-mod Digits
 mod ArrayLaws
 mod OtherWords
 mod Whole

@@ -20,6 +20,7 @@ use crate::faults::Fault;
 use crate::keys::{At, Name, Place};
 use crate::values::{find, natural_of, optional_number, require};
 use dc_base::images::{BlockImage, CoreImage, DispImage};
+use dc_base::limits::{MEMORY_WORDS, MOST_DISPS, MOST_PORTS, MOST_SIGNALS};
 use dc_base::lists::Items;
 use dc_base::numbers::CoreNo;
 use std::alloc::Global;
@@ -98,7 +99,7 @@ fn data_at(alloc: Global, table: &Table, place: Place) -> Result<Items<u32>, Fau
     let Some(found) = find(table, Name::Data) else {
         return Ok(Items::new(alloc));
     };
-    let items = array_of(found, At::Key(place, Name::Data), 0, 4096)?;
+    let items = array_of(found, At::Key(place, Name::Data), 0, MEMORY_WORDS)?;
     words_of(alloc, items, place, Name::Data)
 }
 
@@ -115,7 +116,7 @@ fn disps_at(
 {
     let place = Place::Block(block);
     let found = require(table, place, Name::Disp)?;
-    let items = array_of(found, At::Key(place, Name::Disp), 1, 16)?;
+    let items = array_of(found, At::Key(place, Name::Disp), 1, MOST_DISPS)?;
     disps_of(alloc, items, block, around)
 }
 
@@ -136,8 +137,8 @@ fn block_of(
     let table = table_of(found, place)?;
     let home = home_at(table, place, machine.cores, before)?;
     let memory = data_at(alloc, table, place)?;
-    let ports = optional_number(table, place, Name::Ports, 0, 0, 16)?;
-    let signals = optional_number(table, place, Name::Signals, 0, 0, 16)?;
+    let ports = optional_number(table, place, Name::Ports, 0, 0, MOST_PORTS as u32)?;
+    let signals = optional_number(table, place, Name::Signals, 0, 0, MOST_SIGNALS as u32)?;
     let around = Around {
         block,
         ports,

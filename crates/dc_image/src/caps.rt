@@ -22,13 +22,14 @@ use crate::kinds::{KindName, kind_of};
 use crate::values::{natural_of, number_under, optional_number, require, required_number};
 use dc_base::capabilities::{Cap, CapKind};
 use dc_base::images::{BlockImage, CapImage};
+use dc_base::limits::{DISP_SLOTS, MEMORY_WORDS};
 use dc_base::lists::Items;
 use dc_base::numbers::{ChanNo, LineNo, PortNo, SignalNo};
 use std::alloc::Global;
 use toml::{Table, Value};
 
 /// The words of a block's memory.
-const MEMORY: u32 = 4096;
+const MEMORY: u32 = MEMORY_WORDS as u32;
 
 /// The first word and the length of a part of the memory.
 fn range_at(table: &Table, place: Place) -> Result<(u32, u32), Fault>
@@ -172,7 +173,7 @@ fn slot_at(table: &Table, place: Place, before: &[CapImage]) -> Result<u32, Faul
 {
     let found = require(table, place, Name::Slot)?;
     let at = At::Key(place, Name::Slot);
-    let slot = number_under(found, at, 16)?;
+    let slot = number_under(found, at, DISP_SLOTS)?;
     if is_used(before, slot) {
         return Err(Fault::OutOfRange(at));
     }

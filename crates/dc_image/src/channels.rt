@@ -15,6 +15,7 @@ use crate::faults::Fault;
 use crate::keys::{At, Name, Place};
 use crate::values::{number_under, require, required_number};
 use dc_base::images::ChanImage;
+use dc_base::limits::MOST_CAPACITY;
 use dc_base::lists::Items;
 use dc_base::numbers::BlockNo;
 use std::alloc::Global;
@@ -49,7 +50,7 @@ fn channel_of(found: &Value, place: Place, blocks: u32) -> Result<ChanImage, Fau
     let table = table_of(found, place)?;
     let from = from_at(table, place, blocks)?;
     let to = to_at(table, place, blocks, from)?;
-    let capacity = required_number(table, place, Name::Capacity, 1, 64)?;
+    let capacity = required_number(table, place, Name::Capacity, 1, MOST_CAPACITY)?;
     Ok(ChanImage {
         from: BlockNo(from),
         to: BlockNo(to),

@@ -16,12 +16,13 @@ use crate::keys::{At, Name, Place};
 use crate::values::{find, natural_of, word_of};
 use dc_base::images::CoreImage;
 use dc_base::kernels::Version;
+use dc_base::limits::CLOCK_START_LIMIT;
 use dc_base::lists::Items;
 use std::alloc::Global;
 use toml::{Table, Value};
 
-/// A clock's base is below 2^62.
-const LARGEST_BASE: u64 = (1 << 62) - 1;
+/// The largest base of a clock.
+const LARGEST_BASE: u64 = CLOCK_START_LIMIT - 1;
 
 /// The clock's base, or 0.
 fn base_at(table: &Table, place: Place) -> Result<u64, Fault>

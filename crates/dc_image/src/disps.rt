@@ -20,6 +20,7 @@ use crate::keys::{At, Name, Place};
 use crate::values::{find, optional_number, require};
 use dc_base::faults::AsmFault;
 use dc_base::images::{CapImage, DispImage};
+use dc_base::limits::{CODE_ROOM, DISP_SLOTS, LONGEST_PERIOD};
 use dc_base::lists::Items;
 use dc_isa::assemble;
 use std::alloc::Global;
@@ -56,7 +57,7 @@ fn code_of(alloc: Global, found: &Value, place: Place) -> Result<Items<u32>, Fau
     match found {
         Value::String(text) => assembled(alloc, text.as_str(), at),
         Value::Array(items) => {
-            let items = sized(items.as_slice(), at, 1, 1024)?;
+            let items = sized(items.as_slice(), at, 1, CODE_ROOM)?;
             words_of(alloc, items, place, Name::Code)
         }
         _ => Err(Fault::WrongKind(at)),
@@ -86,7 +87,12 @@ fn caps_at(
     let Some(found) = find(table, Name::Cap) else {
         return Ok(Items::new(alloc));
     };
-    let items = array_of(found, At::Key(Place::Disp(block, disp), Name::Cap), 0, 16)?;
+    let items = array_of(
+        found,
+        At::Key(Place::Disp(block, disp), Name::Cap),
+        0,
+        DISP_SLOTS as usize,
+    )?;
     caps_of(alloc, items, block, disp, around)
 }
 
@@ -105,7 +111,7 @@ fn disp_of(
     let place = Place::Disp(block, disp);
     let table = table_of(found, place)?;
     let code = code_at(alloc, table, place)?;
-    let period = optional_number(table, place, Name::Period, 1, 1, 65535)?;
+    let period = optional_number(table, place, Name::Period, 1, 1, LONGEST_PERIOD)?;
     let due = optional_number(table, place, Name::Due, 0, 0, u32::MAX)?;
     let caps = caps_at(alloc, table, block, disp, around)?;
     Ok(DispImage {

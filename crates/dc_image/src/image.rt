@@ -19,6 +19,10 @@ use crate::keys::{At, Name, Place};
 use crate::values::{find, optional_number, require, required_number, word_of};
 use dc_base::images::{ChanImage, CoreImage, Image};
 use dc_base::kernels::Clocks;
+use dc_base::limits::{
+    MOST_BLOCKS, MOST_CHANNELS, MOST_CORES, MOST_LINES, MOST_QUANTUM, MOST_SLICES,
+    MOST_SLICES_IN_ALL,
+};
 use dc_base::lists::Items;
 use std::alloc::Global;
 use toml::{Table, Value};
@@ -54,7 +58,7 @@ fn cores_at(alloc: Global, table: &Table) -> Result<Items<CoreImage>, Fault>
     ensures within { IfOk result (λ cores. (1 ≤ length cores) × (length cores ≤ 8)) }
 {
     let found = require(table, Place::Image, Name::Core)?;
-    let items = array_of(found, At::Key(Place::Image, Name::Core), 1, 8)?;
+    let items = array_of(found, At::Key(Place::Image, Name::Core), 1, MOST_CORES)?;
     cores_of(alloc, items)
 }
 
@@ -69,7 +73,7 @@ fn slices_at(table: &Table, cores: u32) -> Result<u32, Fault>
         Place::Image,
         Name::Slices,
         1,
-        u32::min(131072, 241664 / cores),
+        u32::min(MOST_SLICES, MOST_SLICES_IN_ALL / cores),
     )
 }
 
@@ -82,7 +86,12 @@ fn channels_at(alloc: Global, table: &Table, blocks: u32) -> Result<Items<ChanIm
     let Some(found) = find(table, Name::Channel) else {
         return Ok(Items::new(alloc));
     };
-    let items = array_of(found, At::Key(Place::Image, Name::Channel), 0, 64)?;
+    let items = array_of(
+        found,
+        At::Key(Place::Image, Name::Channel),
+        0,
+        MOST_CHANNELS,
+    )?;
     channels_of(alloc, items, blocks)
 }
 
@@ -93,12 +102,12 @@ pub fn image_of(alloc: Global, table: &Table) -> Result<Image, Fault>
 {
     let format = required_number(table, Place::Image, Name::Format, 1, 2)?;
     let clocks = clocks_at(table, format)?;
-    let quantum = required_number(table, Place::Image, Name::Quantum, 1, 64)?;
+    let quantum = required_number(table, Place::Image, Name::Quantum, 1, MOST_QUANTUM as u32)?;
     let cores = cores_at(alloc, table)?;
     let slices = slices_at(table, cores.len() as u32)?;
-    let lines = optional_number(table, Place::Image, Name::Lines, 0, 0, 16)?;
+    let lines = optional_number(table, Place::Image, Name::Lines, 0, 0, MOST_LINES as u32)?;
     let blocks = require(table, Place::Image, Name::Block)?;
-    let items = array_of(blocks, At::Key(Place::Image, Name::Block), 1, 16)?;
+    let items = array_of(blocks, At::Key(Place::Image, Name::Block), 1, MOST_BLOCKS)?;
     let channels = channels_at(alloc, table, items.len() as u32)?;
     let machine = Machine {
         cores: cores.as_slice(),

@@ -5,6 +5,7 @@ ghost use Rattle.arrayvec.specs.ArrayString.{array_string_len};
 ghost use Rattle.dc_image.specs.KeyText.{spelling, dotted, under, path_of, key_of};
 
 use dc_base::faults::Key;
+use dc_text::{Line, push_u32};
 
 /// The names of keys.
 #[derive(Clone, Copy, Debug, PartialEq, Eq)]
@@ -97,30 +98,6 @@ pub enum At {
     Item(Place, Name, u32),
 }
 
-/// Adds a digit.
-#[tactic(auto, using(crate::proofs::Digits::digit_len))]
-fn push_digit(key: &mut Key, digit: u32)
-    requires one { digit < 10 }
-    requires room { array_string_len key.old < 64 }
-    ensures { key.new.bytes ≡ key.old.bytes ++ (48 + digit) ∷ [] }
-{
-    key.push((b'0' + digit as u8) as char);
-}
-
-/// Adds the digits of a number.
-#[tactic(auto, using(crate::proofs::Digits::one_digit, crate::proofs::Digits::more_digits, crate::proofs::Digits::one_len, crate::proofs::Digits::more_len))]
-fn push_digits(key: &mut Key, n: u32)
-    requires { array_string_len key.old + length (decimal n) ≤ 64 }
-    ensures { key.new.bytes ≡ key.old.bytes ++ decimal n }
-{
-    if n < 10 {
-        push_digit(key, n);
-    } else {
-        push_digits(key, n / 10);
-        push_digit(key, n % 10);
-    }
-}
-
 /// Adds a dot, where something stands before it.
 fn push_dot(key: &mut Key)
     requires { array_string_len key.old < 64 }
@@ -143,18 +120,20 @@ fn push_name(key: &mut Key, name: Name)
 }
 
 /// Adds a number.
-#[tactic(auto, using(crate::proofs::Digits::len_32))]
+#[tactic(auto, using(dc_text::proofs::Digits::len_32))]
 fn push_number(key: &mut Key, n: u32)
     requires { array_string_len key.old + 11 ≤ 64 }
     ensures added { key.new.bytes ≡ under key.old.bytes (decimal n) }
     ensures len { array_string_len key.new ≤ array_string_len key.old + 1 + length (decimal n) }
 {
     push_dot(key);
-    push_digits(key, n);
+    let mut digits = Line::new();
+    push_u32(&mut digits, n);
+    key.push_str(digits.as_str());
 }
 
 /// Adds the number of a table in the array of a name.
-#[tactic(auto, using(crate::proofs::Digits::len_8))]
+#[tactic(auto, using(dc_text::proofs::Digits::len_8))]
 fn push_element(key: &mut Key, name: Name, n: u8)
     requires { array_string_len key.old + 20 ≤ 64 }
     ensures added { key.new.bytes ≡ under (under key.old.bytes (spelling name)) (decimal n) }

@@ -8,10 +8,8 @@ ghost use Rattle.dc_image.specs.ImageOf.{image_of};
 use crate::image;
 use dc_base::faults::ImageFault;
 use dc_base::images::Image;
+use dc_base::limits::LONGEST_FILE;
 use std::alloc::Global;
-
-/// The bytes of the longest file that is read.
-const LONGEST_FILE: usize = 33_554_432;
 
 /// Reads an image: a TOML text of at most 33,554,432 bytes. A refusal names the first key with a fault, in the order of the keys, by its path.
 pub fn read_image(alloc: Global, bytes: &[u8]) -> Result<Image, ImageFault>

@@ -5,7 +5,8 @@ ghost use Rattle.dc_base.specs.Limits.{longest_file};
 ghost use Rattle.dc_io.specs.Counts.{Rose};
 ghost use Rattle.dc_io.specs.Files.{is_named};
 
-use crate::shelves::{LONGEST_FILE, Load, Shelf};
+use crate::shelves::{Load, Shelf};
+use dc_base::limits::LONGEST_FILE;
 use dc_base::lists::Items;
 use std::alloc::Global;
 use std::marker::Model;

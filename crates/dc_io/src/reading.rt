@@ -2,7 +2,8 @@ ghost use Rattle.std.specs.Prelude.{◌≡◌, ◌≢◌, ℕ, ◌+◌, ◌<◌,
 ghost use Rattle.std.specs.Io.KnownBytes.{Consumes, IsAtEnd};
 ghost use Rattle.dc_base.specs.Limits.{longest_file};
 
-use crate::shelves::{LONGEST_FILE, Load};
+use crate::shelves::Load;
+use dc_base::limits::LONGEST_FILE;
 use std::alloc::Global;
 use std::io::Read;
 

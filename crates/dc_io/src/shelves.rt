@@ -4,9 +4,6 @@ ghost use Rattle.dc_io.specs.Counts.{Rose};
 
 use std::alloc::Global;
 
-/// The length of the longest file that is loaded, in bytes.
-pub(crate) const LONGEST_FILE: usize = 33_554_432;
-
 /// Why a file was not loaded: a read failed, it has more than 33,554,432 bytes, or memory was wanting.
 #[derive(Clone, Copy, Debug, PartialEq, Eq)]
 pub enum Load {

@@ -11,7 +11,8 @@ use Rattle.dc_base.specs.declared.faults.AsmFault.{AsmFault}
 use Rattle.dc_base.specs.declared.faults.AsmFault.TheVariants.{Bad}
 use Rattle.dc_base.specs.Results.{◌>>=◌, fault_as}
 use Rattle.dc_base.specs.ProgramText.{Label, Statement, nothing, label, instruction, is_label_name, words_from, word_of, defines, fits}
-use Rattle.dc_isa.specs.Assembly.{joined, AddsWord}
+use Rattle.dc_text.specs.Rest.{joined}
+use Rattle.dc_isa.specs.Assembly.{AddsWord}
 
 -- the same names stand above
 pub words_from-above : (labels : List Label) (line place : ℕ) (above beyond : List (List ℕ)) → ((q : List ℕ) → list_any (bytes_eq q) above ≡ list_any (bytes_eq q) beyond) → (more : List Statement) →

@@ -4,7 +4,7 @@ use Rattle.std.specs.Borrow.{Bor}
 use Rattle.dc_base.specs.declared.faults.AsmFault.{AsmFault}
 use Rattle.dc_base.specs.declared.faults.AsmFault.TheVariants.{Bad, Memory}
 use Rattle.dc_base.specs.ProgramText.{Label, Statement, statement, code_words, place_of, labels_from, words_from}
-use Rattle.dc_text.specs.Rest.{lines_left}
+use Rattle.dc_text.specs.Rest.{lines_left, joined}
 
 -- the statements of the rest of a text
 abbrev pub statements_left : Option (Bor (List ℕ)) → List Statement
@@ -19,11 +19,6 @@ or_else (Some p) q = Some p
 pub record NotesLabel (old new : List Label) (place next : ℕ) (s : Statement) : Type 0 where
   pub same : (q : List ℕ) (more : List Statement) → or_else (place_of new q) (place_of (labels_from next more) q) ≡ or_else (place_of old q) (place_of (labels_from place (s ∷ more)) q)
   pub near : next ≤ place + 1
-
--- words, and those behind them
-abbrev pub joined : List ℕ → Result (List ℕ) AsmFault → Result (List ℕ) AsmFault
-joined code (Ok words) = Ok (code ++ words)
-joined code (Err e) = Err e
 
 -- with a statement read, the words of the further statements go on as before, or the fault is the statement's
 abbrev pub AddsWord : Result (Unit {0}) AsmFault → List Label → ℕ → (old new : List ℕ) → (above beyond : List (List ℕ)) → Statement → Type 0

@@ -12,6 +12,7 @@ use crate::operands::{operands_sum, word_count};
 use crate::operations::operation_of;
 use crate::statements::{Statement, is_label_name, statement_of};
 use dc_base::faults::{AsmFault, AsmKind};
+use dc_base::limits::CODE_ROOM;
 use dc_text::first_line;
 use std::alloc::{AllocError, Global};
 
@@ -132,7 +133,7 @@ fn add_word(
         Ok(word) => word,
         Err(kind) => return Err(AsmFault::Bad { line, kind }),
     };
-    if code.len() >= 1024 {
+    if code.len() >= CODE_ROOM {
         return Err(AsmFault::Bad {
             line,
             kind: AsmKind::TooLong,

@@ -4,7 +4,6 @@
 mod assembler;
 mod dispatchers;
 mod labels;
-mod numbers;
 mod operands;
 mod operations;
 mod scan;

@@ -8,10 +8,11 @@ ghost use Rattle.dc_isa.specs.Labels.{label_list, capped};
 ghost use Rattle.dc_isa.specs.Operations.{operand_seen, limit, most};
 
 use crate::labels::Labels;
-use crate::numbers::number;
 use crate::operations::Operand;
 use crate::scan::first_word;
 use dc_base::faults::AsmKind;
+use dc_base::limits::{CODE_ROOM, DISP_SLOTS, REGISTER_COUNT};
+use dc_text::number;
 
 /// The number behind the first byte of a word.
 #[tactic(auto, unfolding(dc_base::specs::TextWords::number_of))]
@@ -97,7 +98,7 @@ fn label_place(labels: &Labels, name: &[u8]) -> Result<u32, AsmKind>
     ensures below { IfOk result (λ n. n < 2 ^ 16) }
 {
     match labels.place_of(name) {
-        Some(place) => Ok(place.min(1025)),
+        Some(place) => Ok(place.min(CODE_ROOM as u32 + 1)),
         None => Err(AsmKind::NoLabel),
     }
 }
@@ -119,8 +120,8 @@ fn operand(labels: &Labels, kind: Operand, word: &[u8]) -> Result<u32, AsmKind>
     ensures below { IfOk result (λ n. n < limit (operand_seen kind)) }
 {
     match kind {
-        Operand::RegisterA | Operand::RegisterB => lettered(b'r', 8, word),
-        Operand::SlotA | Operand::SlotB => lettered(b's', 16, word),
+        Operand::RegisterA | Operand::RegisterB => lettered(b'r', REGISTER_COUNT as u32, word),
+        Operand::SlotA | Operand::SlotB => lettered(b's', DISP_SLOTS, word),
         Operand::Immediate => bounded(65536, word),
         Operand::Target => target(labels, word),
         Operand::Grant => granted(word),

@@ -1,28 +1,12 @@
--- A number digit by digit, up to a limit.
-use Rattle.std.proofs.Common.{◌≡◌, ℕ, ◌+◌, ◌-◌, ◌*◌, ◌<◌, ◌≤◌, ◌&&◌, Bool, true, false, List, length, take, get_or, refl, ap, sym, ◌∙◌, arith, nat_lt}
+-- A number up to a limit.
+use Rattle.std.proofs.Common.{◌≡◌, ℕ, ◌+◌, ◌<◌, ◌≤◌, ◌&&◌, Bool, true, false, List, take, refl, ap, sym, arith, nat_lt}
 use Rattle.std.specs.Prelude.{if◌then◌else◌}
 use Rattle.std.specs.List.{list_all}
 use Rattle.std.specs.Char.{is_ascii_digit}
-use Rattle.std.specs.Int.{IsInRange}
 use Rattle.std.specs.Str.Parse.{digits_value}
 use Rattle.std.proofs.lemmas.Bool.{le-ltb}
-use Rattle.std.proofs.lemmas.List.{take_more}
-use Rattle.std.proofs.lemmas.List.Folds.{list_all-append}
-use Rattle.std.proofs.lemmas.Int.Digits.{digits_value_more}
-use Rattle.std.proofs.lemmas.Str.{digit_value_digit}
 use Rattle.std.proofs.lemmas.Str.Parse.{digits_value-take-le}
 use Rattle.dc_base.specs.LooseWords.{loose_number}
-
-pub digits_more : (word : List ℕ) (at : ℕ) → at < length word → is_ascii_digit (get_or word at 0) ≡ true → list_all is_ascii_digit (take at word) ≡ true → list_all is_ascii_digit (take (at + 1) word) ≡ true
-digits_more word at within digit before =
-    ap (λ ds. list_all is_ascii_digit ds) (take_more word at 0 within) ∙ list_all-append is_ascii_digit (take at word) _
-    ∙ ap (λ t. t && (is_ascii_digit (get_or word at 0) && true)) before ∙ ap (λ t. t && true) digit
-
-pub value_more : (word : List ℕ) (at n : ℕ) → at < length word → IsInRange 48 57 (get_or word at 0) → n ≡ digits_value 10 (take at word) → n * 10 + (get_or word at 0 - 48) ≡ digits_value 10 (take (at + 1) word)
-value_more word at n within digit before =
-    ap (λ m. m * 10 + (get_or word at 0 - 48)) before
-    ∙ ap (λ d. digits_value 10 (take at word) * 10 + d) (omega (arith, digit_value_digit _ digit, digit))
-    ∙ sym (digits_value_more 10 word at within)
 
 none_below : (digits : Bool) (n : ℕ) (below : Bool) → below ≡ false → (if digits && below then n else 0) ≡ 0
 none_below true n below e = ap (λ t. if t then n else 0) e

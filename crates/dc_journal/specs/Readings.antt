@@ -6,7 +6,7 @@ use Rattle.dc_base.specs.declared.faults.JournalFault.{JournalFault}
 use Rattle.dc_base.specs.declared.faults.JournalFault.TheVariants.{TooLong, Bad, Memory}
 use Rattle.dc_base.specs.TextWords.{lines_of}
 use Rattle.dc_base.specs.JournalText.{said_from, entry_of}
-use Rattle.dc_text.specs.Rest.{lines_left}
+use Rattle.dc_text.specs.Rest.{lines_left, joined}
 
 -- the line spells an entry with the next ticket, which is added, or its number is the fault
 abbrev pub AddsEntry : Result (Unit {0}) JournalFault → (old new : List Entry) → List ℕ → Type 0
@@ -15,14 +15,9 @@ AddsEntry (Err (Bad n)) old new line = (entry_of (length old) line ≡ None) × 
 AddsEntry (Err Memory) old new line = Unit {0}
 AddsEntry (Err TooLong) old new line = ⊥
 
--- entries, and those behind them
-abbrev pub behind : List Entry → Result (List Entry) ℕ → Result (List Entry) ℕ
-behind entries (Ok further) = Ok (entries ++ further)
-behind entries (Err line) = Err line
-
 -- what a journal says, by the entries read so far and the lines that are left
 abbrev pub read_with : List Entry → List (List ℕ) → Result (List Entry) ℕ
-read_with entries lines = behind entries (said_from entry_of (length entries) lines)
+read_with entries lines = joined entries (said_from entry_of (length entries) lines)
 
 -- with a line read the journal says the same, or the fault is the line's
 abbrev pub ReadsLine : Result (Option (Bor (List ℕ))) JournalFault → (old new : List Entry) → List ℕ → Type 0

@@ -14,6 +14,7 @@ use crate::entries::{entry_line, has_line};
 use crate::words::{is_word, words_in};
 use dc_base::entries::Entry;
 use dc_base::faults::JournalFault;
+use dc_base::limits::LONGEST_FILE;
 use dc_base::numbers::Ticket;
 use dc_text::first_line;
 use std::alloc::Global;
@@ -91,7 +92,7 @@ pub fn read_journal(alloc: Global, bytes: &[u8]) -> Result<Vec<Entry>, JournalFa
     ensures line { (line : ℕ) → result ≡ Err (Bad line) → spec.journal_of bytes.now ≡ Err line }
     ensures long { (result ≡ Err TooLong) ↔ (longest_file < length bytes.now) }
 {
-    if bytes.len() > 33554432 {
+    if bytes.len() > LONGEST_FILE {
         return Err(JournalFault::TooLong);
     }
     let mut entries = Vec::new(alloc);

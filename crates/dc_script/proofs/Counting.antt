@@ -2,7 +2,6 @@
 use Rattle.std.proofs.Common.{◌≡◌, ℕ, ◌+◌, ◌-◌, ◌<◌, ◌≤◌, ◌==◌, ◌&&◌, nat_lt, suc, true, false, not, List, [], ◌∷◌, ◌++◌, length, take, Result, Ok, Err, refl, ap, sym, ◌∙◌, inl, inr, arith, if◌then◌else◌}
 use Rattle.std.proofs.lemmas.Bool.{cases_Bool, lt-ltb, and_parts}
 use Rattle.std.proofs.lemmas.List.{length-append}
-use mathlib.Core.List.{append_assoc}
 use Rattle.dc_base.specs.declared.faults.TextKind.{TextKind}
 use Rattle.dc_base.specs.declared.faults.TextKind.TheVariants.{TooMany}
 use Rattle.dc_base.specs.declared.faults.TextFault.{TextFault}
@@ -10,7 +9,9 @@ use Rattle.dc_base.specs.declared.faults.TextFault.TheVariants.{Bad}
 use Rattle.dc_base.specs.Results.{◌>>=◌, fault_as}
 use Rattle.dc_base.specs.TextWords.{words_of, first_words}
 use Rattle.dc_base.specs.ScriptText.{Numbered, counts, counted_from, lines_read}
-use Rattle.dc_script.specs.Texts.{is_comment, counted_words, joined, said_from}
+use Rattle.dc_text.specs.Rest.{joined}
+use Rattle.dc_text.proofs.Joining.{joined_more}
+use Rattle.dc_script.specs.Texts.{is_comment, counted_words, said_from}
 
 -- a comment does not count
 pub comment : (line : List ℕ) → true ≡ is_comment line → [] ≡ counted_words line
@@ -75,11 +76,6 @@ too_many read limit found n line u us some full more =
     let none_left : limit - length found ≡ 0 = omega (arith, full) in
     ap (λ lines. joined found (lines_read read (limit - length found) lines)) (counted_more n line more u us some)
     ∙ ap (λ left. joined found (lines_read read left ((n, u ∷ us) ∷ counted_from (n + 1) more))) none_left
-
--- what a line says, behind what was found
-joined_more : {A : Type 0} (found : List A) (x : A) (r : Result (List A) TextFault) → joined found (r >>= (λ xs. Ok (x ∷ xs))) ≡ joined (found ++ x ∷ []) r
-joined_more found x (Ok xs) = ap Ok (sym (append_assoc found (x ∷ []) xs))
-joined_more found x (Err fault) = refl
 
 -- a line that counts is read
 read_more : {A : Type 0} (read : List (List ℕ) → Result A TextKind) (limit : ℕ) (found : List A) (n : ℕ) (line : List ℕ) (u : List ℕ) (us : List (List ℕ)) (more : List (List ℕ)) → counted_words line ≡ u ∷ us → length found < limit →

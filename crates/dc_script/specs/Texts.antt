@@ -1,5 +1,5 @@
 -- A text is read line by line.
-use Rattle.std.specs.Prelude.{◌≡◌, ℕ, ◌==◌, Bool, false, ◌+◌, ◌-◌, List, [], ◌∷◌, ◌++◌, length, if◌then◌else◌, Result, Ok, Err}
+use Rattle.std.specs.Prelude.{◌≡◌, ℕ, ◌==◌, Bool, false, ◌+◌, ◌-◌, List, [], ◌∷◌, length, if◌then◌else◌, Result, Ok, Err}
 use Rattle.dc_base.specs.declared.commands.Bounds.{Bounds}
 use Rattle.dc_base.specs.declared.faults.TextKind.{TextKind}
 use Rattle.dc_base.specs.declared.faults.TextFault.{TextFault}
@@ -7,6 +7,7 @@ use Rattle.dc_base.specs.declared.faults.TextFault.TheVariants.{Memory}
 use Rattle.dc_base.specs.States.{Settings}
 use Rattle.dc_base.specs.TextWords.{first_words}
 use Rattle.dc_base.specs.ScriptText.{counts, counted_from, lines_read}
+use Rattle.dc_text.specs.Rest.{joined}
 
 -- the first byte says that the line is a comment
 abbrev pub is_comment : List ℕ → Bool
@@ -16,11 +17,6 @@ is_comment (b ∷ line) = b == 35
 -- the first words of a line that counts; none of another
 abbrev pub counted_words : List ℕ → List (List ℕ)
 counted_words line = if counts line then first_words line else []
-
--- what was found, and what is found behind it
-abbrev pub joined : {A : Type 0} → List A → Result (List A) TextFault → Result (List A) TextFault
-joined found (Ok more) = Ok (found ++ more)
-joined found (Err fault) = Err fault
 
 -- what a text says that begins with these lines, the first of which has this number, behind what was found
 abbrev pub said_from : {A : Type 0} → (List (List ℕ) → Result A TextKind) → (limit : ℕ) → (found : List A) → (number : ℕ) → List (List ℕ) → Result (List A) TextFault

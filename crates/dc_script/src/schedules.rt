@@ -16,6 +16,7 @@ use crate::words::Words;
 use dc_base::actions::{Action, Actor};
 use dc_base::commands::Bounds;
 use dc_base::faults::{TextFault, TextKind};
+use dc_base::limits::LONGEST_SCHEDULE;
 use dc_base::lists::Items;
 use std::alloc::Global;
 
@@ -121,5 +122,5 @@ pub fn read_schedule(alloc: Global, bytes: &[u8], bounds: Bounds) -> Result<Sche
     // Only want of memory is not the text's.
     ensures refused { IfErr result (λ fault. (fault ≡ TextFault.Memory) ⊎ (spec.schedule_of bounds bytes.now ≡ Err fault)) }
 {
-    read_text(alloc, bytes, bounds, 262144)
+    read_text(alloc, bytes, bounds, LONGEST_SCHEDULE)
 }

@@ -15,6 +15,7 @@ use crate::values::{number_within, read_block, read_core, read_line};
 use crate::words::Words;
 use dc_base::commands::{Bounds, ScriptLine};
 use dc_base::faults::{TextFault, TextKind};
+use dc_base::limits::{CONSOLE_ROOM, LONGEST_SCRIPT, MOST_POLLS};
 use dc_base::lists::Items;
 use std::alloc::Global;
 
@@ -44,8 +45,8 @@ fn await_words(bounds: Bounds, words: &Words) -> Result<ScriptLine, TextKind>
     let (block, count, polls) = words.three()?;
     Ok(ScriptLine::Await(
         read_block(bounds, block)?,
-        number_within(0, 65536, count)?,
-        number_within(1, 1000000000, polls)?,
+        number_within(0, CONSOLE_ROOM as u32, count)?,
+        number_within(1, MOST_POLLS, polls)?,
     ))
 }
 
@@ -73,5 +74,5 @@ pub fn read_script(alloc: Global, bytes: &[u8], bounds: Bounds) -> Result<Script
     // Only want of memory is not the text's.
     ensures refused { IfErr result (λ fault. (fault ≡ TextFault.Memory) ⊎ (spec.script_of bounds bytes.now ≡ Err fault)) }
 {
-    read_text(alloc, bytes, bounds, 4096)
+    read_text(alloc, bytes, bounds, LONGEST_SCRIPT)
 }

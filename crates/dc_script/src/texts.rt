@@ -11,12 +11,10 @@ use crate::words::Words;
 use arrayvec::ArrayVec;
 use dc_base::commands::Bounds;
 use dc_base::faults::{TextFault, TextKind};
+use dc_base::limits::LONGEST_FILE;
 use dc_base::lists::Items;
 use dc_text::{first_line, words};
 use std::alloc::Global;
-
-/// No text has more bytes.
-const LONGEST_FILE: usize = 33_554_432;
 
 /// What a line of a text says.
 pub(crate) trait Row: Copy {

@@ -7,6 +7,7 @@ ghost use Rattle.dc_base.specs.ScriptText as spec;
 use dc_base::commands::Bounds;
 use dc_base::faults::TextKind;
 use dc_base::kernels::Version;
+use dc_base::limits::MOST_DISPS;
 use dc_base::numbers::{BlockNo, CoreNo, DispNo, LineNo};
 use dc_text::number;
 
@@ -63,7 +64,7 @@ pub(crate) fn read_line(bounds: Bounds, word: &[u8]) -> Result<LineNo, TextKind>
 pub(crate) fn read_disp(word: &[u8]) -> Result<DispNo, TextKind>
     ensures { result ≡ spec.read_disp word.now }
 {
-    Ok(DispNo(number_below(16, word)?))
+    Ok(DispNo(number_below(MOST_DISPS as u32, word)?))
 }
 
 pub(crate) fn read_version(word: &[u8]) -> Result<Version, TextKind>

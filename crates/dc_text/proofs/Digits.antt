@@ -21,6 +21,9 @@ one_len n small = ap length (decimal_digit n small)
 pub more_len : (n : ℕ) → 10 ≤ n → n < 2 ^ 128 → length (decimal n) ≡ length (decimal (n / 10)) + 1
 more_len n big fits = ap length (more_digits n big fits) ∙ length-append (decimal (n / 10)) _
 
+pub len_8 : (n : ℕ) → n < 2 ^ 8 → length (decimal n) ≤ 3
+len_8 n fits = length-decimal-le 3 n (lit< tt) (omega (arith, fits)) (omega (arith, fits))
+
 pub len_32 : (n : ℕ) → n < 2 ^ 32 → length (decimal n) ≤ 10
 len_32 n fits = length-decimal-le 10 n (lit< tt) (omega (arith, fits)) (omega (arith, fits))
 

@@ -1,6 +1,7 @@
 pub mod Digits
 pub mod Commas
-mod Numbers
+pub mod Numbers
 mod Scanning
 mod Texts
-pub mod TextLines
+mod TextLines
+pub mod Joining

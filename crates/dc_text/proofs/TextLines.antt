@@ -1,14 +1,11 @@
 -- The first line of a text.
-use Rattle.std.proofs.Common.{◌≡◌, ℕ, ◌+◌, ◌-◌, ◌<◌, ◌≤◌, ◌==◌, Bool, true, false, not, cond, List, [], ◌∷◌, length, take, drop, Option, Some, None, refl, ap, sym, subst, ◌∙◌, inl, inr, arith, unwrap_or, nat_lt}
-use Rattle.std.specs.Prelude.{IfSome}
-use Rattle.std.specs.Borrow.{Bor}
+use Rattle.std.proofs.Common.{◌≡◌, ℕ, ◌+◌, ◌-◌, ◌<◌, ◌≤◌, ◌==◌, Bool, true, false, not, cond, List, [], ◌∷◌, length, take, drop, Some, None, refl, ap, sym, subst, ◌∙◌, inl, inr, arith, unwrap_or, nat_lt}
 use Rattle.std.specs.List.{position, position_or_len, slice_split, onto_first}
 use Rattle.std.proofs.lemmas.Bool.{cases_Bool, ltb-false}
 use Rattle.std.proofs.lemmas.List.{take_all, length-drop}
 use Rattle.std.proofs.lemmas.List.Sums.{prefix_len-le-length}
 use Rattle.std.proofs.lemmas.List.Splits.{slice_split_first}
 use Rattle.dc_base.specs.TextWords.{newline, lines_of}
-use Rattle.dc_text.specs.Rest.{most_left}
 
 -- the place, or the length where there is none
 pub place_or : (p : ℕ → Bool) (xs : List ℕ) → unwrap_or (position p xs) (length xs) ≡ position_or_len p xs
@@ -46,8 +43,3 @@ split_none p (x ∷ xs) all = go (split_none p xs) (p x) refl
 -- without a newline the text is one line
 pub last_of_lines : (text : List ℕ) (end : ℕ) → end ≡ position_or_len (λ b. b == 10) text → length text ≤ end → lines_of text ≡ text ∷ []
 last_of_lines text end is past = split_none (λ b. b == newline) text (subst (λ n. length text ≤ n) is past)
-
--- of a shorter rest less is left
-pub left_less : (rest : Option (Bor (List ℕ))) (n : ℕ) → IfSome rest (λ r. length r.now < n) → most_left rest ≤ n
-left_less None n h = omega arith
-left_less (Some r) n h = omega (arith, h)

@@ -1,8 +1,8 @@
 use Rattle.std.proofs.Common.{◌≡◌, [], ◌+◌, ◌≤◌, length, vec_len}
 use Rattle.dc_base.specs.ProgramText.{words_from, statements}
-use Rattle.dc_text.specs.Rest.{most_left}
+use Rattle.dc_text.specs.Rest.{most_left, joined}
 use Rattle.dc_isa.specs.Labels.{label_list, names, capped}
-use Rattle.dc_isa.specs.Assembly.{statements_left, joined}
+use Rattle.dc_isa.specs.Assembly.{statements_left}
 use Rattle.dc_isa.proofs.assembler.words_of.Given as goal
 
 -- the words added, and those of the rest, are the text's

@@ -3,7 +3,8 @@ use Rattle.std.specs.Char.{is_ascii_digit}
 use Rattle.std.specs.Int.{IsInRange}
 use Rattle.std.specs.Str.Parse.{digits_value}
 use Rattle.dc_journal.proofs.words.loose_number.Goals as goal
-use Rattle.dc_journal.proofs.Numbers.{digits_more, value_more, too_great}
+use Rattle.dc_text.proofs.Numbers.{digits_more, value_more}
+use Rattle.dc_journal.proofs.Numbers.{too_great}
 
 pub returns-then-n-most-clause-number : goal.returns-then-n-most-clause-number
 returns-then-n-most-clause-number c =
