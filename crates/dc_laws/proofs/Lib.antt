@@ -1,1 +1,2 @@
 pub mod FirstBadLaws
+pub mod ScriptRests

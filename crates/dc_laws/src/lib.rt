@@ -6,10 +6,17 @@ ghost use Rattle.dc_base.specs.declared.images.Image.{Image};
 ghost use Rattle.dc_base.specs.declared.instructions.Instr.{Instr};
 ghost use Rattle.dc_base.specs.declared.commands.ScriptLine.{ScriptLine};
 ghost use Rattle.dc_base.specs.declared.entries.Entry.{Entry};
+ghost use Rattle.dc_base.specs.declared.entries.Reason.TheVariants as reason;
+ghost use Rattle.dc_base.specs.declared.actions.Actor.TheVariants as actor;
+ghost use Rattle.dc_base.specs.declared.actions.Action.TheVariants as action;
 ghost use Rattle.dc_base.specs.Instructions.{decode, encode, is_proper};
 ghost use Rattle.dc_base.specs.BlockSteps.{blocks_run};
 ghost use Rattle.dc_base.specs.StrikeOut.{struck};
 ghost use Rattle.dc_base.specs.Runs.{Seen, run, run_of, first_bad};
+ghost use Rattle.dc_base.specs.States.{State};
+ghost use Rattle.dc_base.specs.Turns.{not_enabled};
+ghost use Rattle.dc_base.specs.Cores.{core_step};
+ghost use Rattle.dc_base.specs.PlayText.{IsAnswered};
 ghost use Rattle.dc_laws.specs.FirstBad.{IsFirstBad};
 
 /// An instruction with proper fields is that of its word.
@@ -37,4 +44,10 @@ pub fn runs_are_struck_out()
 pub fn first_bad_is_named()
     ensures none { (image : Image) (script : List ScriptLine) (journal : List Entry) → (first_bad image script journal ≡ None) ↔ IsTrue (run_of image script journal) }
     ensures some { (image : Image) (script : List ScriptLine) (journal : List Entry) (ticket : ℕ) → first_bad image script journal ≡ Some ticket → IsFirstBad image script journal ticket }
+{}
+
+/// Where every command is answered and every raise is made, no action of the script makes an entry.
+pub fn answered_scripts_rest()
+    ensures ended { (s : State) (polls : ℕ) → IsAnswered s → core_step s polls actor.Script action.Script ≡ not_enabled reason.ScriptEnded }
+    ensures no_raise { (s : State) (polls : ℕ) → IsAnswered s → core_step s polls actor.Script action.Raise ≡ not_enabled reason.NoRaise }
 {}
