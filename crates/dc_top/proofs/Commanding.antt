@@ -6,7 +6,7 @@ use Rattle.std.proofs.lemmas.List.{length-map}
 use Rattle.dc_base.specs.PlayText.{gen_text}
 use Rattle.dc_base.specs.TextWords.{is_word}
 use Rattle.dc_io.specs.Told.{Adds}
-use Rattle.dc_top.specs.Calls.{Call, PlayAnswers, TellsRun, Wrote}
+use Rattle.dc_top.specs.Calls.{Call, PlayAnswers, TellsPlay, Wrote}
 use Rattle.dc_top.specs.Requests.{Request, play, gen, gen_number, request_of, CommandAnswers, RequestAnswers, RequestTold, UsageTold}
 use Rattle.dc_top.specs.Written.{PlaysAs}
 
@@ -38,7 +38,7 @@ module _ (form i s t : List ℕ) (shelf : Files) where
   pub play_answered : (call : Call) (status : ℕ) → is_word "play" form ≡ true → IfSome shelf (λ f. PlayAnswers i s t f call status) → CommandAnswers (form ∷ i ∷ s ∷ t ∷ []) shelf call status
   play_answered call status e answers = answered (form ∷ i ∷ s ∷ t ∷ []) shelf call status (Some (play i s t)) (play_named form i s t true e) answers
 
-  pub play_told : (before after : Option (List ℕ)) → is_word "play" form ≡ true → Wrote shelf before after (λ files text. TellsRun (files i) (files s) text) →
+  pub play_told : (before after : Option (List ℕ)) → is_word "play" form ≡ true → Wrote shelf before after (λ files text. TellsPlay (files i) (files s) (files t) text) →
       RequestTold shelf before after (request_of (form ∷ i ∷ s ∷ t ∷ []))
   play_told before after e wrote = told (form ∷ i ∷ s ∷ t ∷ []) shelf before after (Some (play i s t)) (play_named form i s t true e) wrote
 

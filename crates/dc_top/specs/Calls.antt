@@ -1,18 +1,22 @@
 -- What the top calls promise.
-use Rattle.std.specs.Prelude.{◌≡◌, ◌⊎◌, ◌≤◌, ◌<◌, ℕ, List, ◌++◌, Option, Some, Ok, IsOk}
+use Rattle.std.specs.Prelude.{◌≡◌, ◌⊎◌, ◌≤◌, ◌<◌, ℕ, List, ◌++◌, length, map, take, Option, Some, Ok, IsOk}
+use Rattle.std.specs.List.{range_with_len}
 use Rattle.dc_base.specs.declared.images.Image.{Image}
+use Rattle.dc_base.specs.declared.actions.Actor.{Actor}
+use Rattle.dc_base.specs.declared.actions.Action.{Action}
 use Rattle.dc_base.specs.declared.commands.ScriptLine.{ScriptLine}
 use Rattle.dc_base.specs.declared.entries.Entry.{Entry}
 use Rattle.dc_base.specs.declared.reports.ReportLine.{ReportLine}
-use Rattle.dc_base.specs.TextWords.{ended}
+use Rattle.dc_base.specs.TextWords.{lines_of, ended}
 use Rattle.dc_base.specs.EntryText.{journal_text}
-use Rattle.dc_base.specs.JournalText.{journal_of}
-use Rattle.dc_base.specs.ReportText.{report_text}
+use Rattle.dc_base.specs.JournalText.{journal_of, ticket_of}
+use Rattle.dc_base.specs.ReportText.{report_text, skipped_text, end_text}
 use Rattle.dc_base.specs.FaultText.{read_fault_line}
+use Rattle.dc_base.specs.CoreRuns.{core_run}
 use Rattle.dc_base.specs.Headline.{IsReportedRun}
 use Rattle.dc_io.specs.Counts.{Rose}
 use Rattle.dc_io.specs.Told.{Adds, AddsPrefix}
-use Rattle.dc_top.specs.Verdict.{Inputs, play_verdict, inputs_read, image_read}
+use Rattle.dc_top.specs.Verdict.{Inputs, bounds_of, play_verdict, inputs_read, image_read, schedule_read}
 
 -- the counts of faults before and after a call, and what the sink told
 pub record Call : Type 0 where
@@ -47,18 +51,27 @@ pub data PlayAnswers (image script schedule : List ℕ) (files : List ℕ → Li
 abbrev pub IsPlayStatus : ℕ → Type 0
 IsPlayStatus status = (status ≡ 0) ⊎ ((1 < status) × (status ≤ 7))
 
--- a text that begins with a journal and its report: the journal, read back, is a run of the image and the script up to what the report shows
-pub record IsReportedText (image : Image) (script : List ScriptLine) (text : List ℕ) : Type 0 where
+-- a text that is a journal, its report and this rest: the journal, read back, is a run of the image and the script up to what the report shows
+pub record IsReportedText (image : Image) (script : List ScriptLine) (rest text : List ℕ) : Type 0 where
   pub journal : List Entry
   pub report : List ReportLine
-  pub rest : List ℕ
   pub spelled : text ≡ journal_text journal ++ report_text report ++ rest
   pub read : journal_of text ≡ Ok journal
+  -- the lines of the journal begin with 0, 1 and on, in order
+  pub tickets : map ticket_of (take (length journal) (lines_of text)) ≡ map Some (range_with_len 0 (length journal))
   pub reported : IsReportedRun image script journal report
 
--- the text tells a run of the machine that these two files describe
-abbrev pub TellsRun : (image script text : List ℕ) → Type 0
-TellsRun image script text = (m : Inputs) × (inputs_read image script ≡ Ok m) × IsReportedText m.image m.script text
+-- what stands behind the report of a play: how many actions were skipped, and the end
+abbrev pub behind_play : ℕ → List ℕ
+behind_play skipped = ended (skipped_text skipped) ++ ended end_text
+
+-- the text tells a run of the machine that the first two files describe, and how many actions of the third were skipped
+pub record TellsPlay (image script schedule text : List ℕ) : Type 0 where
+  pub machine : Inputs
+  pub actions : List (Actor × Action)
+  pub described : inputs_read image script ≡ Ok machine
+  pub scheduled : schedule_read (bounds_of machine.image) schedule ≡ Ok actions
+  pub told : IsReportedText machine.image machine.script (behind_play (core_run machine.image machine.script actions).skipped) text
 
 -- where the files are told, and the bytes taken so far, this holds of the files and of what the call has written
 abbrev pub Wrote : Option (List ℕ → List ℕ) → Option (List ℕ) → Option (List ℕ) → ((List ℕ → List ℕ) → List ℕ → Type 0) → Type 0

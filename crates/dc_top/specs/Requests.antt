@@ -4,7 +4,7 @@ use Rattle.std.specs.Option.{option_map}
 use Rattle.dc_base.specs.PlayText.{gen_text}
 use Rattle.dc_base.specs.TextWords.{is_word, number_of, ended}
 use Rattle.dc_io.specs.Told.{Adds}
-use Rattle.dc_top.specs.Calls.{Call, PlayAnswers, TellsRun, Wrote}
+use Rattle.dc_top.specs.Calls.{Call, PlayAnswers, TellsPlay, Wrote}
 use Rattle.dc_top.specs.Refusals.{usage}
 use Rattle.dc_top.specs.Written.{PlaysAs, WritesAs}
 
@@ -42,5 +42,5 @@ CommandAnswers words files call status = MatchOption (request_of words) (UsageTo
 -- what was written for a request that was done: a text that tells a run of the files that a play names, or the summary of the generated input
 abbrev pub RequestTold : Option (List ℕ → List ℕ) → Option (List ℕ) → Option (List ℕ) → Option Request → Type 0
 RequestTold shelf before after None = ⊥
-RequestTold shelf before after (Some (play image script schedule)) = Wrote shelf before after (λ files text. TellsRun (files image) (files script) text)
+RequestTold shelf before after (Some (play image script schedule)) = Wrote shelf before after (λ files text. TellsPlay (files image) (files script) (files schedule) text)
 RequestTold shelf before after (Some (gen n)) = Adds before after (gen_text n)
