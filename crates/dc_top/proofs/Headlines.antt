@@ -1,6 +1,6 @@
 -- What a play writes whole tells a run.
-use Rattle.std.proofs.Common.{◌≡◌, ◌∙◌, ◌≤◌, ◌+◌, ◌^◌, ℕ, List, [], ◌∷◌, ◌++◌, length, map, take, Bool, refl, ap, subst, inr, Option, Some, append_assoc, arith}
-use Rattle.std.specs.Prelude.{IsTrue, IfSome}
+use Rattle.std.proofs.Common.{◌≡◌, ◌∙◌, ◌≤◌, ◌+◌, ◌^◌, ℕ, List, [], ◌∷◌, ◌++◌, length, map, take, Bool, refl, ap, inr, Option, Some, append_assoc, arith}
+use Rattle.std.specs.Prelude.{IsTrue}
 use Rattle.std.specs.List.{list_all, range_with_len}
 use Rattle.std.proofs.lemmas.List.{length-append}
 use Rattle.dc_base.specs.declared.images.Image.{Image}
@@ -23,9 +23,10 @@ use Rattle.dc_base.specs.CoreRuns.{Run, after_outcome, run_all, core_run, core_r
 use Rattle.dc_base.specs.Headline.{IsReportedRun}
 use Rattle.dc_base.specs.Valid.{IsValid, IsValidScript, IsValidSchedule}
 use Rattle.dc_top.specs.Calls.{IsReportedText, TellsPlay, Wrote, behind_play}
-use Rattle.dc_top.specs.Halts.{Files, IsReady}
+use Rattle.dc_top.specs.Contents.{Contents, Files, OfFiles}
+use Rattle.dc_top.specs.Halts.{IsReady}
 use Rattle.dc_top.specs.Written.{PlaysAs}
-use Rattle.dc_top.proofs.Answers.{plays_whole}
+use Rattle.dc_top.proofs.Answers.{plays_whole, followed}
 
 -- the laws over the definitions that are called
 abbrev pub Reported : Type 0
@@ -86,22 +87,25 @@ module _ (reported : Reported) (lines : EachEntry has_line) (ranges : EachEntry 
     reported = reported i s schedule valid suits;
   }
 
-  module _ (image script schedule : List ℕ) (shelf : Files) (before after : Option (List ℕ)) (f g : ℕ) (i : Image) (s : List ScriptLine) (a : List (Actor × Action)) where
-    ready_of : (files : List ℕ → List ℕ) → shelf ≡ Some files → IfSome shelf (λ f. IsReady (f image) (f script) (f schedule) i s a) → IsReady (files image) (files script) (files schedule) i s a
-    ready_of files e ready = subst (λ (x : Files). IfSome x (λ f. IsReady (f image) (f script) (f schedule) i s a)) e ready
-
-    pub played_tells : (result : ℕ) → IfSome shelf (λ f. IsReady (f image) (f script) (f schedule) i s a) → IsValid i → IsValidScript (settings_of i) s → IsValidSchedule (settings_of i) a →
-        PlaysAs f g before after (play_text i s a) result → result ≡ 0 → Wrote shelf before after (λ files text. TellsPlay (files image) (files script) (files schedule) text)
-    played_tells result ready valid suits fits w is_0 = λ files taken told held.
-        let adds = plays_whole f g before after (play_text i s a) result w is_0 in
-        let accepted = ready_of files told ready in (
+  module _ (image script schedule : List ℕ) (files : Files) (before after : Option (List ℕ)) (f g : ℕ) (i : Image) (s : List ScriptLine) (a : List (Actor × Action)) where
+    ready_tells : (result : ℕ) → IsValid i → IsValidScript (settings_of i) s → IsValidSchedule (settings_of i) a → PlaysAs f g before after (play_text i s a) result → result ≡ 0 → (bytes : Contents) →
+        IsReady bytes.image bytes.script bytes.schedule i s a → Wrote before after (TellsPlay bytes.image bytes.script bytes.schedule)
+    ready_tells result valid suits fits w is_0 bytes ready = λ taken held.
+        let adds = plays_whole f g before after (play_text i s a) result w is_0 in (
           play_text i s a,
           adds.added taken held,
           record {
             machine = record { image = i; script = s };
             actions = a;
-            described = accepted.inputs;
-            scheduled = accepted.actions;
+            described = ready.inputs;
+            scheduled = ready.actions;
             told = text_told i s a valid suits fits.most;
           },
         )
+
+    pub played_tells : (result : ℕ) → OfFiles files image script schedule (λ bytes. IsReady bytes.image bytes.script bytes.schedule i s a) → IsValid i → IsValidScript (settings_of i) s →
+        IsValidSchedule (settings_of i) a → PlaysAs f g before after (play_text i s a) result → result ≡ 0 →
+        OfFiles files image script schedule (λ bytes. Wrote before after (TellsPlay bytes.image bytes.script bytes.schedule))
+    played_tells result ready valid suits fits w is_0 =
+        followed files image script schedule (λ bytes. IsReady bytes.image bytes.script bytes.schedule i s a) (λ bytes. Wrote before after (TellsPlay bytes.image bytes.script bytes.schedule))
+        (ready_tells result valid suits fits w is_0) ready

@@ -1,10 +1,11 @@
 //! The top calls.
 
-ghost use Rattle.std.specs.Prelude.{◌≡◌, IfSome};
+ghost use Rattle.std.specs.Prelude.{◌≡◌};
 ghost use Rattle.dc_base.specs.PlayText.{play_text};
 ghost use Rattle.dc_base.specs.States.{settings_of};
 ghost use Rattle.dc_base.specs.Valid.{IsValid, IsValidScript, IsValidSchedule};
 ghost use Rattle.dc_io.specs.Counts.{Rose};
+ghost use Rattle.dc_top.specs.Contents.{OfFiles};
 ghost use Rattle.dc_top.specs.Calls.{IsPlayStatus, PlayAnswers, TellsPlay, Wrote};
 ghost use Rattle.dc_top.specs.Halts.{HaltTold, name_of};
 ghost use Rattle.dc_top.specs.Written.{PlaysAs};
@@ -81,9 +82,10 @@ pub fn play_call<H: Shelf, S: Sink>(
     schedule: &str,
 ) -> u8
     // At status 0 the text written tells a run of the image and the script, from its first entry to its report, and how many actions of the schedule were skipped.
-    ensures headline { result ≡ 0 → Wrote (H.told shelf.old) (S.told sink.old) (S.told sink.new) (λ files text. TellsPlay (files image.now) (files script.now) (files schedule.now) text) }
-    // Each status has its cause, and what was written with it.
-    ensures answers { IfSome (H.told shelf.old) (λ files. PlayAnswers image.now script.now schedule.now files
+    ensures headline { result ≡ 0 → OfFiles (H.told shelf.old) image.now script.now schedule.now
+        (λ bytes. Wrote (S.told sink.old) (S.told sink.new) (TellsPlay bytes.image bytes.script bytes.schedule)) }
+    // Each status has its cause, and what was written with it: by the bytes of the files where they are told, and of some files where they are not.
+    ensures answers { OfFiles (H.told shelf.old) image.now script.now schedule.now (λ bytes. PlayAnswers image.now script.now schedule.now bytes
         (record {
           shelf_faults = H.faults shelf.old;
           shelf_faults_after = H.faults shelf.new;
