@@ -11,10 +11,17 @@ ghost use Rattle.dc_base.specs.Capabilities.{Seat, seat_at};
 ghost use Rattle.dc_base.specs.Descent.{ReachesDescent};
 ghost use Rattle.dc_base.specs.ControlBlocks.{ControlBlock};
 ghost use Rattle.dc_base.specs.KeptByBlocks.{HasCaps};
+ghost use Rattle.dc_base.specs.declared.entries.Reason.TheVariants as reason;
+ghost use Rattle.dc_base.specs.declared.actions.Actor.TheVariants as actor;
+ghost use Rattle.dc_base.specs.declared.actions.Action.TheVariants as action;
 ghost use Rattle.dc_base.specs.Instructions.{decode, encode, is_proper};
 ghost use Rattle.dc_base.specs.BlockSteps.{blocks_run};
 ghost use Rattle.dc_base.specs.StrikeOut.{struck};
 ghost use Rattle.dc_base.specs.Runs.{Seen, run, run_of, first_bad};
+ghost use Rattle.dc_base.specs.States.{State};
+ghost use Rattle.dc_base.specs.Turns.{not_enabled};
+ghost use Rattle.dc_base.specs.Cores.{core_step};
+ghost use Rattle.dc_base.specs.PlayText.{IsAnswered};
 ghost use Rattle.dc_laws.specs.FirstBad.{IsFirstBad};
 
 /// An instruction with proper fields is that of its word.
@@ -49,4 +56,10 @@ pub fn first_bad_is_named()
 pub fn counted_steps_reach_what_is_above()
     ensures seats { (caps : List Seat) (h : Seat) → seat_at caps h.slot ≡ Some h → ReachesDescent caps h }
     ensures blocks { (x : ControlBlock) → HasCaps x → Each x.parts.caps (λ i (h : Seat). ReachesDescent x.parts.caps h) }
+{}
+
+/// Where every command is answered and every raise is made, no action of the script makes an entry.
+pub fn answered_scripts_rest()
+    ensures ended { (s : State) (polls : ℕ) → IsAnswered s → core_step s polls actor.Script action.Script ≡ not_enabled reason.ScriptEnded }
+    ensures no_raise { (s : State) (polls : ℕ) → IsAnswered s → core_step s polls actor.Script action.Raise ≡ not_enabled reason.NoRaise }
 {}

@@ -8,6 +8,7 @@ pub mod CoreEntries
 pub mod ScriptEntries
 pub mod Candidates
 pub mod Journals
+pub mod Tickets
 pub mod ReadRanges
 pub mod ReadLines
 pub mod Deciding

@@ -1,6 +1,6 @@
 -- What was written, with its status, is what a call answers.
-use Rattle.std.proofs.Common.{◌≡◌, ◌⊎◌, ◌<◌, ◌≤◌, ℕ, List, refl, sym, ap, ◌∙◌, subst, arith, inl, inr, Option, Some, None, Result, Ok, Err}
-use Rattle.std.specs.Prelude.{OnErr, IfSome}
+use Rattle.std.proofs.Common.{◌≡◌, ◌⊎◌, ◌<◌, ◌≤◌, ℕ, List, [], refl, sym, ap, ◌∙◌, subst, arith, inl, inr, Option, Some, None, Result, Ok, Err}
+use Rattle.std.specs.Prelude.{OnErr}
 use Rattle.dc_base.specs.declared.images.Image.{Image}
 use Rattle.dc_base.specs.Results.{◌>>=◌}
 use Rattle.dc_base.specs.TextWords.{ended}
@@ -19,8 +19,9 @@ use Rattle.dc_top.specs.declared.halts.Halt.{Halt}
 use Rattle.dc_top.specs.declared.halts.Halt.TheVariants as halt
 use Rattle.dc_top.specs.declared.refusals.Refusal.{Refusal}
 use Rattle.dc_top.specs.declared.refusals.Refusal.TheVariants as why
+use Rattle.dc_top.specs.Contents.{Contents, Files, OfFiles}
 use Rattle.dc_top.specs.Calls.{Call, FaultOf, IsPlayStatus, PlayAnswers, verdict, read_fault, write_fault, both_faults, no_memory}
-use Rattle.dc_top.specs.Halts.{Files, Halts, HaltTold, IsReady, verdict_of, name_of}
+use Rattle.dc_top.specs.Halts.{Halts, HaltTold, IsReady, verdict_of, name_of}
 use Rattle.dc_top.specs.Refusals.{Verdict, line_of, status_of}
 use Rattle.dc_base.specs.declared.actions.Actor.{Actor}
 use Rattle.dc_base.specs.declared.actions.Action.{Action}
@@ -30,21 +31,21 @@ pub writes_as : {T : Type 0} (f g : ℕ) (a b : Option (List ℕ)) (status : ℕ
 writes_as f g a b status text (Ok x) w rose = whole w
 writes_as f g a b status text (Err failed) w rose = part rose w
 
-module _ (image script schedule : List ℕ) (files : List ℕ → List ℕ) (call : Call) where
+module _ (image script schedule : List ℕ) (bytes : Contents) (call : Call) where
   abbrev pub V : Verdict
-  V = play_verdict (files image) (files script) (files schedule)
+  V = play_verdict bytes.image bytes.script bytes.schedule
 
   abbrev pub W : ℕ → List ℕ → ℕ → Type 0
   W = λ status text result. WritesAs call.sink_faults call.sink_faults_after call.told call.told_after status text result
 
-  verdict_told : (result : ℕ) → W V.status V.text result → PlayAnswers image script schedule files call result
+  verdict_told : (result : ℕ) → W V.status V.text result → PlayAnswers image script schedule bytes call result
   verdict_told result (whole adds) = verdict adds
   verdict_told result (part rose prefix) = write_fault rose prefix
 
-  pub verdict_answers : (v : Verdict) (result : ℕ) → V ≡ v → W v.status v.text result → PlayAnswers image script schedule files call result
+  pub verdict_answers : (v : Verdict) (result : ℕ) → V ≡ v → W v.status v.text result → PlayAnswers image script schedule bytes call result
   verdict_answers v result same w = verdict_told result (subst (λ (x : Verdict). W x.status x.text result) (sym same) w)
 
-  pub unread_answers : (name : List ℕ) (result : ℕ) → FaultOf image script schedule files name → Rose call.shelf_faults call.shelf_faults_after → W 5 (ended (read_fault_line name)) result → PlayAnswers image script schedule files call result
+  pub unread_answers : (name : List ℕ) (result : ℕ) → FaultOf image script schedule bytes name → Rose call.shelf_faults call.shelf_faults_after → W 5 (ended (read_fault_line name)) result → PlayAnswers image script schedule bytes call result
   unread_answers name result fault rose (whole adds) = read_fault name fault rose adds
   unread_answers name result fault rose (part failed prefix) = both_faults name fault rose failed prefix
 
@@ -103,22 +104,57 @@ whole_or_6 : (f g : ℕ) (a b : Option (List ℕ)) (status : ℕ) (text : List �
 whole_or_6 f g a b status text result (whole adds) = inl refl
 whole_or_6 f g a b status text result (part rose prefix) = inr (refl, rose)
 
+-- what follows of bytes that files may hold
+pub followed : (files : Files) (image script schedule : List ℕ) (P Q : Contents → Type 0) → ((bytes : Contents) → P bytes → Q bytes) → OfFiles files image script schedule P → OfFiles files image script schedule Q
+followed files image script schedule P Q follows x = record {
+  bytes = x.bytes;
+  image_may = x.image_may;
+  script_may = x.script_may;
+  schedule_may = x.schedule_may;
+  holds = follows x.bytes x.holds;
+}
+
+-- files may hold something
+any_files : (files : Files) (image script schedule : List ℕ) → OfFiles files image script schedule (λ bytes. Unit {0})
+any_files None image script schedule = record { bytes = record { image = []; script = []; schedule = [] }; image_may = cc; script_may = cc; schedule_may = cc; holds = tt }
+any_files (Some f) image script schedule = record {
+  bytes = record { image = f image; script = f script; schedule = f schedule };
+  image_may = refl;
+  script_may = refl;
+  schedule_may = refl;
+  holds = tt;
+}
+
 module _ (image script schedule : List ℕ) where
-  pub played_answers : (files : Files) (call : Call) (i : Image) (s : List ScriptLine) (a : List (Actor × Action)) (result : ℕ) → IfSome files (λ f. IsReady (f image) (f script) (f schedule) i s a) →
-      PlaysAs call.sink_faults call.sink_faults_after call.told call.told_after (play_text i s a) result → IfSome files (λ f. PlayAnswers image script schedule f call result)
-  played_answers None call i s a result ready w = cc
-  played_answers (Some f) call i s a result ready (whole_text adds) =
-      verdict_answers image script schedule f call (done (play_text i s a)) result (ready_verdict (f image) (f script) (f schedule) i s a ready) (whole adds)
-  played_answers (Some f) call i s a result ready (part_of_text rose prefix) =
-      verdict_answers image script schedule f call (done (play_text i s a)) result (ready_verdict (f image) (f script) (f schedule) i s a ready) (part rose prefix)
-  played_answers (Some f) call i s a result ready (no_text same) = no_memory same
+  -- what is answered, by the bytes
+  abbrev A : Call → ℕ → Contents → Type 0
+  A call result = λ bytes. PlayAnswers image script schedule bytes call result
+
+  ready_answers : (call : Call) (i : Image) (s : List ScriptLine) (a : List (Actor × Action)) (result : ℕ) (bytes : Contents) →
+      PlaysAs call.sink_faults call.sink_faults_after call.told call.told_after (play_text i s a) result → IsReady bytes.image bytes.script bytes.schedule i s a → A call result bytes
+  ready_answers call i s a result bytes (whole_text adds) ready =
+      verdict_answers image script schedule bytes call (done (play_text i s a)) result (ready_verdict bytes.image bytes.script bytes.schedule i s a ready) (whole adds)
+  ready_answers call i s a result bytes (part_of_text rose prefix) ready =
+      verdict_answers image script schedule bytes call (done (play_text i s a)) result (ready_verdict bytes.image bytes.script bytes.schedule i s a ready) (part rose prefix)
+  ready_answers call i s a result bytes (no_text same) ready = no_memory same
+
+  pub played_answers : (files : Files) (call : Call) (i : Image) (s : List ScriptLine) (a : List (Actor × Action)) (result : ℕ) →
+      OfFiles files image script schedule (λ bytes. IsReady bytes.image bytes.script bytes.schedule i s a) →
+      PlaysAs call.sink_faults call.sink_faults_after call.told call.told_after (play_text i s a) result → OfFiles files image script schedule (λ bytes. PlayAnswers image script schedule bytes call result)
+  played_answers files call i s a result ready w =
+      followed files image script schedule (λ bytes. IsReady bytes.image bytes.script bytes.schedule i s a) (A call result) (λ bytes r. ready_answers call i s a result bytes w r) ready
 
   pub halt_answers : (files : Files) (call : Call) (h : Halt) (result : ℕ) → Halts files image script schedule call.shelf_faults call.shelf_faults_after h →
-      HaltTold h image script schedule call.sink_faults call.sink_faults_after call.told call.told_after result → IfSome files (λ f. PlayAnswers image script schedule f call result)
-  halt_answers None call h result e w = cc
-  halt_answers (Some f) call (halt.Refused r) result e w = verdict_answers image script schedule f call (verdict_of r) result e w
-  halt_answers (Some f) call (halt.Unread v) result e w = unread_answers image script schedule f call (name_of v image script schedule) result e.1 e.0 w
-  halt_answers (Some f) call halt.Memory result e w = subst (λ (n : ℕ). PlayAnswers image script schedule f call n) (sym w.0) (no_memory w.1)
+      HaltTold h image script schedule call.sink_faults call.sink_faults_after call.told call.told_after result → OfFiles files image script schedule (λ bytes. PlayAnswers image script schedule bytes call result)
+  halt_answers files call (halt.Refused r) result e w =
+      followed files image script schedule (λ bytes. play_verdict bytes.image bytes.script bytes.schedule ≡ verdict_of r) (A call result)
+      (λ bytes same. verdict_answers image script schedule bytes call (verdict_of r) result same w) e
+  halt_answers files call (halt.Unread v) result e w =
+      followed files image script schedule (λ bytes. FaultOf image script schedule bytes (name_of v image script schedule)) (A call result)
+      (λ bytes fault. unread_answers image script schedule bytes call (name_of v image script schedule) result fault e.0 w) e.1
+  halt_answers files call halt.Memory result e w =
+      followed files image script schedule (λ bytes. Unit {0}) (A call result) (λ bytes u. subst (λ (n : ℕ). PlayAnswers image script schedule bytes call n) (sym w.0) (no_memory w.1))
+      (any_files files image script schedule)
 
   module _ (files : Files) (before now f g : ℕ) (a b : Option (List ℕ)) where
     pub halt_read_fault : (h : Halt) (result : ℕ) → Halts files image script schedule before now h → HaltTold h image script schedule f g a b result → result ≡ 5 → Rose before now

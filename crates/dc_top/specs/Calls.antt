@@ -1,18 +1,23 @@
 -- What the top calls promise.
-use Rattle.std.specs.Prelude.{◌≡◌, ◌⊎◌, ◌≤◌, ◌<◌, ℕ, List, ◌++◌, Option, Some, Ok, IsOk}
+use Rattle.std.specs.Prelude.{◌≡◌, ◌⊎◌, ◌≤◌, ◌<◌, ℕ, List, ◌++◌, length, map, take, Option, Some, Ok, IsOk}
+use Rattle.std.specs.List.{range_with_len}
 use Rattle.dc_base.specs.declared.images.Image.{Image}
+use Rattle.dc_base.specs.declared.actions.Actor.{Actor}
+use Rattle.dc_base.specs.declared.actions.Action.{Action}
 use Rattle.dc_base.specs.declared.commands.ScriptLine.{ScriptLine}
 use Rattle.dc_base.specs.declared.entries.Entry.{Entry}
 use Rattle.dc_base.specs.declared.reports.ReportLine.{ReportLine}
-use Rattle.dc_base.specs.TextWords.{ended}
+use Rattle.dc_base.specs.TextWords.{lines_of, ended}
 use Rattle.dc_base.specs.EntryText.{journal_text}
-use Rattle.dc_base.specs.JournalText.{journal_of}
-use Rattle.dc_base.specs.ReportText.{report_text}
+use Rattle.dc_base.specs.JournalText.{journal_of, ticket_of}
+use Rattle.dc_base.specs.ReportText.{report_text, skipped_text, end_text}
 use Rattle.dc_base.specs.FaultText.{read_fault_line}
+use Rattle.dc_base.specs.CoreRuns.{core_run}
 use Rattle.dc_base.specs.Headline.{IsReportedRun}
 use Rattle.dc_io.specs.Counts.{Rose}
 use Rattle.dc_io.specs.Told.{Adds, AddsPrefix}
-use Rattle.dc_top.specs.Verdict.{Inputs, play_verdict, inputs_read, image_read}
+use Rattle.dc_top.specs.Contents.{Contents}
+use Rattle.dc_top.specs.Verdict.{Inputs, bounds_of, play_verdict, inputs_read, image_read, schedule_read}
 
 -- the counts of faults before and after a call, and what the sink told
 pub record Call : Type 0 where
@@ -24,42 +29,51 @@ pub record Call : Type 0 where
   pub told_after : Option (List ℕ)
 
 -- which of three files a read fault names: each file before it was loaded and accepted
-pub data FaultOf (image script schedule : List ℕ) (files : List ℕ → List ℕ) : List ℕ → Type 0 where
-  at_image : FaultOf image script schedule files image
-  at_script : IsOk (image_read (files image)) → FaultOf image script schedule files script
-  at_schedule : IsOk (inputs_read (files image) (files script)) → FaultOf image script schedule files schedule
+pub data FaultOf (image script schedule : List ℕ) (bytes : Contents) : List ℕ → Type 0 where
+  at_image : FaultOf image script schedule bytes image
+  at_script : IsOk (image_read bytes.image) → FaultOf image script schedule bytes script
+  at_schedule : IsOk (inputs_read bytes.image bytes.script) → FaultOf image script schedule bytes schedule
 
--- Each status has its cause, and what was written with it.
-pub data PlayAnswers (image script schedule : List ℕ) (files : List ℕ → List ℕ) (call : Call) : ℕ → Type 0 where
+-- Each status has its cause, and what was written with it, by the names and the bytes of three files.
+pub data PlayAnswers (image script schedule : List ℕ) (bytes : Contents) (call : Call) : ℕ → Type 0 where
   -- the whole text, or the line of the first file that is refused
-  verdict : Adds call.told call.told_after (play_verdict (files image) (files script) (files schedule)).text →
-      PlayAnswers image script schedule files call (play_verdict (files image) (files script) (files schedule)).status
-  read_fault : (name : List ℕ) → FaultOf image script schedule files name → Rose call.shelf_faults call.shelf_faults_after →
-      Adds call.told call.told_after (ended (read_fault_line name)) → PlayAnswers image script schedule files call 5
+  verdict : Adds call.told call.told_after (play_verdict bytes.image bytes.script bytes.schedule).text →
+      PlayAnswers image script schedule bytes call (play_verdict bytes.image bytes.script bytes.schedule).status
+  read_fault : (name : List ℕ) → FaultOf image script schedule bytes name → Rose call.shelf_faults call.shelf_faults_after →
+      Adds call.told call.told_after (ended (read_fault_line name)) → PlayAnswers image script schedule bytes call 5
   -- a part of what belongs to one of the two above
   write_fault : Rose call.sink_faults call.sink_faults_after →
-      AddsPrefix call.told call.told_after (play_verdict (files image) (files script) (files schedule)).text → PlayAnswers image script schedule files call 6
-  both_faults : (name : List ℕ) → FaultOf image script schedule files name → Rose call.shelf_faults call.shelf_faults_after → Rose call.sink_faults call.sink_faults_after →
-      AddsPrefix call.told call.told_after (ended (read_fault_line name)) → PlayAnswers image script schedule files call 6
-  no_memory : call.told_after ≡ call.told → PlayAnswers image script schedule files call 7
+      AddsPrefix call.told call.told_after (play_verdict bytes.image bytes.script bytes.schedule).text → PlayAnswers image script schedule bytes call 6
+  both_faults : (name : List ℕ) → FaultOf image script schedule bytes name → Rose call.shelf_faults call.shelf_faults_after → Rose call.sink_faults call.sink_faults_after →
+      AddsPrefix call.told call.told_after (ended (read_fault_line name)) → PlayAnswers image script schedule bytes call 6
+  no_memory : call.told_after ≡ call.told → PlayAnswers image script schedule bytes call 7
 
 -- 0, or 2 to 7
 abbrev pub IsPlayStatus : ℕ → Type 0
 IsPlayStatus status = (status ≡ 0) ⊎ ((1 < status) × (status ≤ 7))
 
--- a text that begins with a journal and its report: the journal, read back, is a run of the image and the script up to what the report shows
-pub record IsReportedText (image : Image) (script : List ScriptLine) (text : List ℕ) : Type 0 where
+-- a text that is a journal, its report and this rest: the journal, read back, is a run of the image and the script up to what the report shows
+pub record IsReportedText (image : Image) (script : List ScriptLine) (rest text : List ℕ) : Type 0 where
   pub journal : List Entry
   pub report : List ReportLine
-  pub rest : List ℕ
   pub spelled : text ≡ journal_text journal ++ report_text report ++ rest
   pub read : journal_of text ≡ Ok journal
+  -- the lines of the journal begin with 0, 1 and on, in order
+  pub tickets : map ticket_of (take (length journal) (lines_of text)) ≡ map Some (range_with_len 0 (length journal))
   pub reported : IsReportedRun image script journal report
 
--- the text tells a run of the machine that these two files describe
-abbrev pub TellsRun : (image script text : List ℕ) → Type 0
-TellsRun image script text = (m : Inputs) × (inputs_read image script ≡ Ok m) × IsReportedText m.image m.script text
+-- what stands behind the report of a play: how many actions were skipped, and the end
+abbrev pub behind_play : ℕ → List ℕ
+behind_play skipped = ended (skipped_text skipped) ++ ended end_text
 
--- where the files are told, and the bytes taken so far, this holds of the files and of what the call has written
-abbrev pub Wrote : Option (List ℕ → List ℕ) → Option (List ℕ) → Option (List ℕ) → ((List ℕ → List ℕ) → List ℕ → Type 0) → Type 0
-Wrote shelf before after P = (files : List ℕ → List ℕ) (taken : List ℕ) → shelf ≡ Some files → before ≡ Some taken → (text : List ℕ) × (after ≡ Some (taken ++ text)) × P files text
+-- the text tells a run of the machine that the first two files describe, and how many actions of the third were skipped
+pub record TellsPlay (image script schedule text : List ℕ) : Type 0 where
+  pub machine : Inputs
+  pub actions : List (Actor × Action)
+  pub described : inputs_read image script ≡ Ok machine
+  pub scheduled : schedule_read (bounds_of machine.image) schedule ≡ Ok actions
+  pub told : IsReportedText machine.image machine.script (behind_play (core_run machine.image machine.script actions).skipped) text
+
+-- where the bytes taken so far are told, this holds of what the call has written
+abbrev pub Wrote : (before after : Option (List ℕ)) → (List ℕ → Type 0) → Type 0
+Wrote before after P = (taken : List ℕ) → before ≡ Some taken → (text : List ℕ) × (after ≡ Some (taken ++ text)) × P text

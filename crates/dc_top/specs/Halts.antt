@@ -15,12 +15,9 @@ use Rattle.dc_top.specs.declared.halts.Which.{Which}
 use Rattle.dc_top.specs.declared.halts.Which.TheVariants as which
 use Rattle.dc_top.specs.Refusals.{Verdict, line_of, status_of}
 use Rattle.dc_top.specs.Verdict.{bounds_of, inputs_read, schedule_read, play_verdict}
+use Rattle.dc_top.specs.Contents.{Files, OfFile, OfFiles}
 use Rattle.dc_top.specs.Calls.{FaultOf}
 use Rattle.dc_top.specs.Written.{WritesAs}
-
--- the files of a shelf, where it tells them
-abbrev pub Files : Type 0
-Files = Option (List ℕ → List ℕ)
 
 abbrev pub verdict_of : Refusal → Verdict
 verdict_of r = record { status = status_of r; text = ended (line_of r) }
@@ -33,7 +30,7 @@ MissesAt which files name too_long before now halt.Memory = ⊤
 
 -- why this file does not serve: it is refused so, or it could not be read, or memory was wanting
 abbrev pub HaltsAt : {A : Type 0} → Which → Files → (List ℕ → Result A Verdict) → List ℕ → (before now : ℕ) → Halt → Type 0
-HaltsAt which files read name before now (halt.Refused r) = IfSome files (λ f. read (f name) ≡ Err (verdict_of r))
+HaltsAt which files read name before now (halt.Refused r) = OfFile files name (λ bytes. read bytes ≡ Err (verdict_of r))
 HaltsAt which files read name before now (halt.Unread w) = (w ≡ which) × Rose before now
 HaltsAt which files read name before now halt.Memory = ⊤
 
@@ -45,8 +42,8 @@ name_of which.Schedule image script schedule = schedule
 
 -- why three files are not played: the first that is refused, or one that could not be read, or memory was wanting
 abbrev pub Halts : Files → (image script schedule : List ℕ) → (before now : ℕ) → Halt → Type 0
-Halts files image script schedule before now (halt.Refused r) = IfSome files (λ f. play_verdict (f image) (f script) (f schedule) ≡ verdict_of r)
-Halts files image script schedule before now (halt.Unread w) = Rose before now × IfSome files (λ f. FaultOf image script schedule f (name_of w image script schedule))
+Halts files image script schedule before now (halt.Refused r) = OfFiles files image script schedule (λ bytes. play_verdict bytes.image bytes.script bytes.schedule ≡ verdict_of r)
+Halts files image script schedule before now (halt.Unread w) = Rose before now × OfFiles files image script schedule (λ bytes. FaultOf image script schedule bytes (name_of w image script schedule))
 Halts files image script schedule before now halt.Memory = ⊤
 
 -- the line of a halt was written with its status; where memory was wanting there is none

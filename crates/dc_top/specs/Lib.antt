@@ -1,4 +1,5 @@
 pub mod Calls
+pub mod Contents
 pub mod Halts
 pub mod Refusals
 pub mod Requests

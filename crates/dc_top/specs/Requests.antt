@@ -1,10 +1,11 @@
 -- What the words of a command ask for.
-use Rattle.std.specs.Prelude.{ℕ, List, [], ◌∷◌, length, nat_lt, nat_le, if◌then◌else◌, Option, Some, None, IfSome, MatchOption}
+use Rattle.std.specs.Prelude.{◌≡◌, ◌⊎◌, ◌≤◌, ℕ, List, [], ◌∷◌, length, nat_lt, nat_le, if◌then◌else◌, Option, Some, None, MatchOption}
 use Rattle.std.specs.Option.{option_map}
 use Rattle.dc_base.specs.PlayText.{gen_text}
 use Rattle.dc_base.specs.TextWords.{is_word, number_of, ended}
 use Rattle.dc_io.specs.Told.{Adds}
-use Rattle.dc_top.specs.Calls.{Call, PlayAnswers, TellsRun, Wrote}
+use Rattle.dc_top.specs.Contents.{OfFiles}
+use Rattle.dc_top.specs.Calls.{Call, IsPlayStatus, PlayAnswers, TellsPlay, Wrote}
 use Rattle.dc_top.specs.Refusals.{usage}
 use Rattle.dc_top.specs.Written.{PlaysAs, WritesAs}
 
@@ -30,9 +31,9 @@ request_of words = None
 abbrev pub UsageTold : Call → ℕ → Type 0
 UsageTold call status = WritesAs call.sink_faults call.sink_faults_after call.told call.told_after 1 (ended usage) status
 
--- a play is answered where the files are told, and the summary of a generated input always
+-- a play is answered by bytes that its files may hold, and the summary of a generated input by its number
 abbrev pub RequestAnswers : Option (List ℕ → List ℕ) → Call → ℕ → Request → Type 0
-RequestAnswers files call status (play image script schedule) = IfSome files (λ f. PlayAnswers image script schedule f call status)
+RequestAnswers files call status (play image script schedule) = OfFiles files image script schedule (λ bytes. PlayAnswers image script schedule bytes call status)
 RequestAnswers files call status (gen n) = PlaysAs call.sink_faults call.sink_faults_after call.told call.told_after (gen_text n) status
 
 -- what the words ask for is answered
@@ -42,5 +43,11 @@ CommandAnswers words files call status = MatchOption (request_of words) (UsageTo
 -- what was written for a request that was done: a text that tells a run of the files that a play names, or the summary of the generated input
 abbrev pub RequestTold : Option (List ℕ → List ℕ) → Option (List ℕ) → Option (List ℕ) → Option Request → Type 0
 RequestTold shelf before after None = ⊥
-RequestTold shelf before after (Some (play image script schedule)) = Wrote shelf before after (λ files text. TellsRun (files image) (files script) text)
+RequestTold shelf before after (Some (play image script schedule)) = OfFiles shelf image script schedule (λ bytes. Wrote before after (TellsPlay bytes.image bytes.script bytes.schedule))
 RequestTold shelf before after (Some (gen n)) = Adds before after (gen_text n)
+
+-- the statuses of what the words ask for: where no form has them, that of the usage, or 6 where it was not written whole
+abbrev pub HasStatusOf : Option Request → ℕ → Type 0
+HasStatusOf None status = (status ≡ 1) ⊎ (status ≡ 6)
+HasStatusOf (Some (play image script schedule)) status = IsPlayStatus status
+HasStatusOf (Some (gen n)) status = (status ≡ 0) ⊎ ((6 ≤ status) × (status ≤ 7))

@@ -1,11 +1,12 @@
 //! The top calls.
 
-ghost use Rattle.std.specs.Prelude.{◌≡◌, IfSome};
+ghost use Rattle.std.specs.Prelude.{◌≡◌};
 ghost use Rattle.dc_base.specs.PlayText.{play_text};
 ghost use Rattle.dc_base.specs.States.{settings_of};
 ghost use Rattle.dc_base.specs.Valid.{IsValid, IsValidScript, IsValidSchedule};
 ghost use Rattle.dc_io.specs.Counts.{Rose};
-ghost use Rattle.dc_top.specs.Calls.{IsPlayStatus, PlayAnswers, TellsRun, Wrote};
+ghost use Rattle.dc_top.specs.Contents.{OfFiles};
+ghost use Rattle.dc_top.specs.Calls.{IsPlayStatus, PlayAnswers, TellsPlay, Wrote};
 ghost use Rattle.dc_top.specs.Halts.{HaltTold, name_of};
 ghost use Rattle.dc_top.specs.Written.{PlaysAs};
 
@@ -22,7 +23,7 @@ use dc_play::play;
 use dc_ranges::entries_are_in_range;
 use dc_rr::RrDriver;
 use dc_script::{Schedule, Script};
-use dc_spelling::what_is_spelled_is_read;
+use dc_spelling::{tickets_are_in_order, what_is_spelled_is_read};
 use std::alloc::Global;
 
 fn name_of<'a>(which: Which, image: &'a str, script: &'a str, schedule: &'a str) -> &'a str
@@ -80,10 +81,11 @@ pub fn play_call<H: Shelf, S: Sink>(
     script: &str,
     schedule: &str,
 ) -> u8
-    // At status 0 the text written tells a run of the image and the script, from its first entry to its report.
-    ensures headline { result ≡ 0 → Wrote (H.told shelf.old) (S.told sink.old) (S.told sink.new) (λ files text. TellsRun (files image.now) (files script.now) text) }
-    // Each status has its cause, and what was written with it.
-    ensures answers { IfSome (H.told shelf.old) (λ files. PlayAnswers image.now script.now schedule.now files
+    // At status 0 the text written tells a run of the image and the script, from its first entry to its report, and how many actions of the schedule were skipped.
+    ensures headline { result ≡ 0 → OfFiles (H.told shelf.old) image.now script.now schedule.now
+        (λ bytes. Wrote (S.told sink.old) (S.told sink.new) (TellsPlay bytes.image bytes.script bytes.schedule)) }
+    // Each status has its cause, and what was written with it: by the bytes of the files where they are told, and of some files where they are not.
+    ensures answers { OfFiles (H.told shelf.old) image.now script.now schedule.now (λ bytes. PlayAnswers image.now script.now schedule.now bytes
         (record {
           shelf_faults = H.faults shelf.old;
           shelf_faults_after = H.faults shelf.new;
@@ -101,6 +103,7 @@ pub fn play_call<H: Shelf, S: Sink>(
     every_run_is_reported();
     entries_are_in_range();
     what_is_spelled_is_read();
+    tickets_are_in_order();
     match load_play(alloc, image, script, schedule, shelf) {
         Ok((machine, lines, actions)) => play_inputs(alloc, &machine, &lines, &actions, sink),
         Err(halt) => tell(halt, image, script, schedule, sink),

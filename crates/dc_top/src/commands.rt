@@ -4,7 +4,7 @@ ghost use Rattle.std.specs.Prelude.{◌≡◌, ◌≤◌, [], ◌∷◌, map, st
 ghost use Rattle.dc_base.specs.TextWords.{ended, is_word};
 ghost use Rattle.dc_io.specs.Counts.{Rose};
 ghost use Rattle.dc_top.specs.Refusals.{usage};
-ghost use Rattle.dc_top.specs.Requests.{CommandAnswers, RequestTold, gen_number, request_of};
+ghost use Rattle.dc_top.specs.Requests.{CommandAnswers, HasStatusOf, RequestTold, gen_number, request_of};
 ghost use Rattle.dc_top.specs.Written.{WritesAs};
 
 use crate::calls::play_call;
@@ -74,7 +74,7 @@ fn command_of_one<H: Shelf, S: Sink>(
     ensures no_read { result ≡ 5 → ⊥ }
     ensures write_fault { result ≡ 6 → Rose (S.faults sink.old) (S.faults sink.new) }
     ensures no_memory { result ≡ 7 → S.told sink.new ≡ S.told sink.old }
-    ensures listed { result ≤ 7 }
+    ensures listed { HasStatusOf (request_of (form.now ∷ first.now ∷ [])) result }
 {
     if is_gen(form) {
         match read_number(first) {
@@ -109,7 +109,7 @@ fn command_of_three<H: Shelf, S: Sink>(
     ensures read_fault { result ≡ 5 → Rose (H.faults shelf.old) (H.faults shelf.new) }
     ensures write_fault { result ≡ 6 → Rose (S.faults sink.old) (S.faults sink.new) }
     ensures no_memory { result ≡ 7 → S.told sink.new ≡ S.told sink.old }
-    ensures listed { result ≤ 7 }
+    ensures listed { HasStatusOf (request_of (form.now ∷ first.now ∷ second.now ∷ third.now ∷ [])) result }
 {
     if is_play(form) {
         play_call(alloc, shelf, sink, first, second, third)
@@ -143,7 +143,8 @@ pub fn command<H: Shelf, S: Sink, G: Gate>(
     ensures read_fault { result ≡ 5 → Rose (H.faults shelf.old) (H.faults shelf.new) }
     ensures write_fault { result ≡ 6 → Rose (S.faults sink.old) (S.faults sink.new) }
     ensures no_memory { result ≡ 7 → S.told sink.new ≡ S.told sink.old }
-    ensures listed { result ≤ 7 }
+    // What the words ask for decides which statuses there are: 1 is said of words that have no form, and of no others, also where nothing is told.
+    ensures listed { HasStatusOf (request_of (map string_bytes words.now)) result }
 {
     // Each number of words has an arm of its own, so that the last one holds all longer rows and nothing else.
     match words {

@@ -1,10 +1,11 @@
 //! The files of a play, loaded and read.
 
-ghost use Rattle.std.specs.Prelude.{◌≡◌, ◌≤◌, ◌<◌, IfOk, IfErr, IfSome, Ok, length};
+ghost use Rattle.std.specs.Prelude.{◌≡◌, ◌≤◌, ◌<◌, IfOk, IfErr, Ok, length};
 ghost use Rattle.dc_base.specs.States.{Settings, settings_of};
 ghost use Rattle.dc_base.specs.Limits.{longest_file};
 ghost use Rattle.dc_base.specs.Valid.{IsValid, IsValidScript, IsValidSchedule};
 ghost use Rattle.dc_script.specs.Texts.{AreBounds};
+ghost use Rattle.dc_top.specs.Contents.{MayHold, OfFile, OfFiles};
 ghost use Rattle.dc_top.specs.Halts.{Halts, HaltsAt, IsReady, MissesAt};
 ghost use Rattle.dc_top.specs.Verdict.{image_read, script_read, schedule_read};
 ghost use Rattle.dc_top.specs.Verdict as verdict;
@@ -28,7 +29,7 @@ fn load<H: Shelf>(
     which: Which,
     too_long: Refusal,
 ) -> Result<Vec<u8>, Halt>
-    ensures loaded { IfOk result (λ bytes. IfSome (H.told shelf.old) (λ files. bytes.items ≡ files name.now)) }
+    ensures loaded { IfOk result (λ bytes. MayHold (H.told shelf.old) name.now bytes.items) }
     ensures short { IfOk result (λ bytes. length bytes.items ≤ longest_file) }
     ensures misses { IfErr result (MissesAt which (H.told shelf.old) name.now too_long (H.faults shelf.old) (H.faults shelf.new)) }
     ensures kept { H.told shelf.new ≡ H.told shelf.old }
@@ -46,7 +47,7 @@ fn load<H: Shelf>(
 /// The image of a file.
 #[tactic(auto, using(crate::proofs::Loading::image_misses, crate::proofs::Loading::image_refuses, crate::proofs::Loading::image_serves))]
 fn load_image<H: Shelf>(alloc: Global, name: &str, shelf: &mut H) -> Result<Image, Halt>
-    ensures image { IfOk result (λ image. IfSome (H.told shelf.old) (λ files. image_read (files name.now) ≡ Ok image)) }
+    ensures image { IfOk result (λ image. OfFile (H.told shelf.old) name.now (λ bytes. image_read bytes ≡ Ok image)) }
     ensures valid { IfOk result IsValid }
     ensures halts { IfErr result (HaltsAt which.Image (H.told shelf.old) image_read name.now (H.faults shelf.old) (H.faults shelf.new)) }
     ensures kept { H.told shelf.new ≡ H.told shelf.old }
@@ -67,7 +68,7 @@ fn load_script<H: Shelf>(
     bounds: Bounds,
     shelf: &mut H,
 ) -> Result<Script, Halt>
-    ensures script { IfOk result (λ script. IfSome (H.told shelf.old) (λ files. script_read bounds (files name.now) ≡ Ok script)) }
+    ensures script { IfOk result (λ script. OfFile (H.told shelf.old) name.now (λ bytes. script_read bounds bytes ≡ Ok script)) }
     ensures valid { IfOk result (λ script. (t : Settings) → AreBounds bounds t → IsValidScript t script) }
     ensures halts { IfErr result (HaltsAt which.Script (H.told shelf.old) (script_read bounds) name.now (H.faults shelf.old) (H.faults shelf.new)) }
     ensures kept { H.told shelf.new ≡ H.told shelf.old }
@@ -88,7 +89,7 @@ fn load_schedule<H: Shelf>(
     bounds: Bounds,
     shelf: &mut H,
 ) -> Result<Schedule, Halt>
-    ensures schedule { IfOk result (λ schedule. IfSome (H.told shelf.old) (λ files. schedule_read bounds (files name.now) ≡ Ok schedule)) }
+    ensures schedule { IfOk result (λ schedule. OfFile (H.told shelf.old) name.now (λ bytes. schedule_read bounds bytes ≡ Ok schedule)) }
     ensures valid { IfOk result (λ schedule. (t : Settings) → AreBounds bounds t → IsValidSchedule t schedule) }
     ensures halts { IfErr result (HaltsAt which.Schedule (H.told shelf.old) (schedule_read bounds) name.now (H.faults shelf.old) (H.faults shelf.new)) }
     ensures kept { H.told shelf.new ≡ H.told shelf.old }
@@ -122,7 +123,7 @@ pub fn load_play<H: Shelf>(
     schedule: &str,
     shelf: &mut H,
 ) -> Result<(Image, Script, Schedule), Halt>
-    ensures ready { IfOk result (λ r. IfSome (H.told shelf.old) (λ files. IsReady (files image.now) (files script.now) (files schedule.now) r.0 r.1 r.2)) }
+    ensures ready { IfOk result (λ r. OfFiles (H.told shelf.old) image.now script.now schedule.now (λ bytes. IsReady bytes.image bytes.script bytes.schedule r.0 r.1 r.2)) }
     ensures valid_image { IfOk result (λ r. IsValid r.0) }
     ensures valid_script { IfOk result (λ r. IsValidScript (settings_of r.0) r.1) }
     ensures valid_schedule { IfOk result (λ r. IsValidSchedule (settings_of r.0) r.2) }
