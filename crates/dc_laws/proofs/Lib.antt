@@ -1,2 +1,3 @@
 pub mod FirstBadLaws
 pub mod Descents
+pub mod Revoking

@@ -7,8 +7,8 @@ ghost use Rattle.dc_base.specs.declared.instructions.Instr.{Instr};
 ghost use Rattle.dc_base.specs.declared.commands.ScriptLine.{ScriptLine};
 ghost use Rattle.dc_base.specs.declared.entries.Entry.{Entry};
 ghost use Rattle.dc_base.specs.Words.{Each};
-ghost use Rattle.dc_base.specs.Capabilities.{Seat, seat_at};
-ghost use Rattle.dc_base.specs.Descent.{ReachesDescent};
+ghost use Rattle.dc_base.specs.Capabilities.{Seat, seat_at, after_revoke};
+ghost use Rattle.dc_base.specs.Descent.{Descends, ReachesDescent};
 ghost use Rattle.dc_base.specs.ControlBlocks.{ControlBlock};
 ghost use Rattle.dc_base.specs.KeptByBlocks.{HasCaps};
 ghost use Rattle.dc_base.specs.Instructions.{decode, encode, is_proper};
@@ -49,4 +49,10 @@ pub fn first_bad_is_named()
 pub fn counted_steps_reach_what_is_above()
     ensures seats { (caps : List Seat) (h : Seat) → seat_at caps h.slot ≡ Some h → ReachesDescent caps h }
     ensures blocks { (x : ControlBlock) → HasCaps x → Each x.parts.caps (λ i (h : Seat). ReachesDescent x.parts.caps h) }
+{}
+
+/// A revoke empties just the slots that descend from the revoked one: each other slot holds what it held, and hangs where it hung.
+pub fn a_revoke_empties_what_descends()
+    ensures emptied { (x : ControlBlock) → HasCaps x → (s y : ℕ) → Descends x.parts.caps y s → seat_at (after_revoke s x.parts.caps) y ≡ None }
+    ensures kept { (x : ControlBlock) → HasCaps x → (s y : ℕ) → ¬ Descends x.parts.caps y s → seat_at (after_revoke s x.parts.caps) y ≡ seat_at x.parts.caps y }
 {}
