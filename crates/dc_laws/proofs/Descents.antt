@@ -34,7 +34,7 @@ use Rattle.dc_base.specs.Descent.{Descends, child, further}
 same_is : (n : ℕ) → (n == n) ≡ true
 same_is n = grind (arith, nat_tests)
 
-is_same : (m n : ℕ) → (m == n) ≡ true → m ≡ n
+pub is_same : (m n : ℕ) → (m == n) ≡ true → m ≡ n
 is_same m n h = grind (arith, nat_tests)
 
 other_is : (m n : ℕ) → (m ≡ n → ⊥) → (m == n) ≡ false

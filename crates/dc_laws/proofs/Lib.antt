@@ -1,3 +1,4 @@
 pub mod FirstBadLaws
 pub mod Descents
 pub mod ScriptRests
+pub mod Revoking

@@ -7,8 +7,8 @@ ghost use Rattle.dc_base.specs.declared.instructions.Instr.{Instr};
 ghost use Rattle.dc_base.specs.declared.commands.ScriptLine.{ScriptLine};
 ghost use Rattle.dc_base.specs.declared.entries.Entry.{Entry};
 ghost use Rattle.dc_base.specs.Words.{Each};
-ghost use Rattle.dc_base.specs.Capabilities.{Seat, seat_at};
-ghost use Rattle.dc_base.specs.Descent.{ReachesDescent};
+ghost use Rattle.dc_base.specs.Capabilities.{Seat, seat_at, after_revoke};
+ghost use Rattle.dc_base.specs.Descent.{Descends, ReachesDescent};
 ghost use Rattle.dc_base.specs.ControlBlocks.{ControlBlock};
 ghost use Rattle.dc_base.specs.KeptByBlocks.{HasCaps};
 ghost use Rattle.dc_base.specs.declared.entries.Reason.TheVariants as reason;
@@ -62,4 +62,10 @@ pub fn counted_steps_reach_what_is_above()
 pub fn answered_scripts_rest()
     ensures ended { (s : State) (polls : ℕ) → IsAnswered s → core_step s polls actor.Script action.Script ≡ not_enabled reason.ScriptEnded }
     ensures no_raise { (s : State) (polls : ℕ) → IsAnswered s → core_step s polls actor.Script action.Raise ≡ not_enabled reason.NoRaise }
+{}
+
+/// A revoke empties just the slots that descend from the revoked one: each other slot holds what it held, and hangs where it hung.
+pub fn a_revoke_empties_what_descends()
+    ensures emptied { (x : ControlBlock) → HasCaps x → (s y : ℕ) → Descends x.parts.caps y s → seat_at (after_revoke s x.parts.caps) y ≡ None }
+    ensures kept { (x : ControlBlock) → HasCaps x → (s y : ℕ) → ¬ Descends x.parts.caps y s → seat_at (after_revoke s x.parts.caps) y ≡ seat_at x.parts.caps y }
 {}
