@@ -82,7 +82,8 @@ agrees_after quantum before slice fired ended = false
 -- a slice's columns agree: its instructions are within the quantum, no due timer is left, and the end and the clock are right
 abbrev pub slice_agrees : ℕ → ℕ → SliceColumns → Blocks → Bool
 slice_agrees quantum before slice s =
-    agrees_after quantum before slice (after_fires s slice.block slice.fired) (after_instrs (after_fires s slice.block slice.fired) slice.block slice.dispatcher slice.ran)
+    agrees_after quantum before slice (after_fires s slice.block slice.fired)
+    (after_instrs (after_fires s slice.block slice.fired) slice.block slice.dispatcher slice.ran)
 
 -- where no dispatcher was ready, a slice leaves no due timer, and takes the clock on by 1
 abbrev pub none_slice_agrees : ℕ → ℕ → ℕ → Option Blocks → Bool

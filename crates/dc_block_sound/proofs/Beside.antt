@@ -8,7 +8,7 @@ use Rattle.dc_base.specs.Channels.{Ring}
 use Rattle.dc_base.specs.Lines.{Wire}
 use Rattle.dc_base.specs.Serving.{Outside, nothing_outside, console_outside, channel_outside, line_outside}
 use Rattle.dc_base.specs.States.{State, Settings, Script}
-use Rattle.dc_base.specs.Steps.{as_console, as_channel, as_line}
+use Rattle.dc_base.specs.NeededLooks.{as_console, as_channel, as_line}
 use Rattle.dc_base.proofs.EachLaws.{each_nil}
 use Rattle.dc_block_sound.specs.SoundControls.{Suits}
 use Rattle.dc_block_sound.proofs.CapForms.{OffersWithin}

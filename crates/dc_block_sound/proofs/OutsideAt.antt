@@ -6,7 +6,7 @@ use Rattle.dc_base.specs.declared.calls.Need.TheVariants as needs
 use Rattle.dc_base.specs.NeedsHere.{need_here}
 use Rattle.dc_base.specs.Serving.{Outside, nothing_outside}
 use Rattle.dc_base.specs.States.{State, Settings}
-use Rattle.dc_base.specs.Steps.{as_console, as_channel, as_line}
+use Rattle.dc_base.specs.NeededLooks.{as_console, as_channel, as_line}
 
 -- the object outside block b that a call needs
 abbrev pub outside_at : State → ℕ → Need → Outside

@@ -28,7 +28,7 @@ use Rattle.dc_base.specs.Serving.{need, Outside, nothing_outside, console_outsid
 use Rattle.dc_base.specs.Serving as serving
 use Rattle.dc_base.specs.Slices.{Halfway, stopped, stands, need_of, after_served, with_ahead, after_ahead, halfway, due_after, slice_end}
 use Rattle.dc_base.specs.States.{State, Settings}
-use Rattle.dc_base.specs.Steps.{as_console, as_channel, as_line}
+use Rattle.dc_base.specs.NeededLooks.{as_console, as_channel, as_line}
 use Rattle.dc_base.specs.Timers.{is_sooner, sooner, soonest, if_due, due_timer}
 use Rattle.dc_base.specs.Wakes.{ready_again}
 use Rattle.dc_base.proofs.CodeLaws.{decode-some}

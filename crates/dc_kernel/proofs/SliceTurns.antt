@@ -13,7 +13,8 @@ use Rattle.dc_base.specs.NeedsHere.{need_here}
 use Rattle.dc_base.specs.Serving.{need, Outside, Served, faulted, held_up, served, serve}
 use Rattle.dc_base.specs.Slices.{Halfway, stopped, stands, halfway, slice_of, slice_end, need_of, without_ready, with_due, after_served}
 use Rattle.dc_base.specs.States.{State, Core, Block, with_control}
-use Rattle.dc_base.specs.Steps.{look_outside, outside_change, core_after_slice, finish_slice, slice_entry, slice_outcome, slice_picked, slice_turn}
+use Rattle.dc_base.specs.NeededLooks.{look_outside, outside_change}
+use Rattle.dc_base.specs.SliceTurns.{core_after_slice, finish_slice, slice_entry, slice_outcome, slice_picked, slice_turn}
 use Rattle.dc_base.specs.Turns.{Turn, did, outcome}
 use Rattle.dc_kernel.specs.Running.{Running, on_core, time_in}
 use Rattle.dc_kernel.specs.Forwards.{fired, picked, halfway_in, need_in}

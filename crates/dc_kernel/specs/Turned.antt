@@ -9,7 +9,8 @@ use Rattle.dc_base.specs.NeedsHere.{need_here}
 use Rattle.dc_base.specs.Outcomes.{by_core}
 use Rattle.dc_base.specs.Serving.{Outside, nothing_outside}
 use Rattle.dc_base.specs.States.{State, Settings, Core, Block, with_control}
-use Rattle.dc_base.specs.Steps.{as_console, as_channel, as_line, outside_change, core_after_slice}
+use Rattle.dc_base.specs.NeededLooks.{as_console, as_channel, as_line, outside_change}
+use Rattle.dc_base.specs.SliceTurns.{core_after_slice}
 use Rattle.dc_base.specs.Turns.{Outcome, did, not_enabled}
 use Rattle.dc_kernel.specs.Done.{Done}
 

@@ -2,7 +2,7 @@
 
 ghost use Rattle.std.specs.Prelude.{◌≡◌, ℕ, ◌<◌, ◌^◌, true, Some};
 ghost use Rattle.dc_base.specs.States.{State, Core};
-ghost use Rattle.dc_base.specs.Steps.{slice_turn};
+ghost use Rattle.dc_base.specs.SliceTurns.{slice_turn};
 ghost use Rattle.dc_base.specs.Turns.{outcome};
 ghost use Rattle.dc_kernel.specs.Running.{Running, on_core};
 ghost use Rattle.dc_kernel.specs.Forwards.{halfway_in, need_in};

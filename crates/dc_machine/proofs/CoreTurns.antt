@@ -12,7 +12,9 @@ use Rattle.dc_base.specs.declared.numbers.CoreNo.{CoreNo}
 use Rattle.dc_base.specs.Cores.{core_action, core_turn, core_step, turn_of}
 use Rattle.dc_base.specs.Outcomes.{has, if_on}
 use Rattle.dc_base.specs.States.{State, Core, Block}
-use Rattle.dc_base.specs.Steps.{is_runnable, next_due, idle_outcome, slice_turn, step_on}
+use Rattle.dc_base.specs.Steps.{is_runnable, step_on}
+use Rattle.dc_base.specs.IdleTurns.{next_due, idle_outcome}
+use Rattle.dc_base.specs.SliceTurns.{slice_turn}
 use Rattle.dc_base.specs.Turns.{Looked, Turn, Outcome, ends, spent, outcome}
 use Rattle.dc_machine.specs.declared.turns.Stepped.{Stepped}
 use Rattle.dc_machine.specs.declared.turns.Stepped.TheVariants as stepped

@@ -12,7 +12,7 @@ use Rattle.std.proofs.lemmas.Option.{none-some, same_Some, slice_get_within, get
 use Rattle.dc_base.specs.declared.interrupts.Timer.{Timer}
 use Rattle.dc_base.specs.Outcomes.{share_blocks}
 use Rattle.dc_base.specs.States.{Block, Member, Whereabouts, rest, on}
-use Rattle.dc_base.specs.Steps.{due_clocks, due_clock, next_due}
+use Rattle.dc_base.specs.IdleTurns.{due_clocks, due_clock, next_due}
 use Rattle.dc_base.specs.Timers.{soonest, sooner, is_sooner}
 use Rattle.dc_base.specs.Turns.{Looked}
 use Rattle.dc_base.specs.Words.{least, lesser, above_zero}

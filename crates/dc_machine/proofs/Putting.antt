@@ -12,7 +12,7 @@ use Rattle.dc_base.specs.Channels.{Ring}
 use Rattle.dc_base.specs.Lines.{Wire}
 use Rattle.dc_base.specs.Serving.{nothing_outside, console_outside, channel_outside, line_outside}
 use Rattle.dc_base.specs.States.{State}
-use Rattle.dc_base.specs.Steps.{as_line, outside_change}
+use Rattle.dc_base.specs.NeededLooks.{as_line, outside_change}
 use Rattle.dc_kernel.specs.declared.outsides.Outside.{Outside}
 use Rattle.dc_kernel.specs.declared.outsides.Outside.TheVariants as held
 use Rattle.dc_kernel.specs.Outsides.{outside_seen, Fits}

@@ -23,7 +23,8 @@ use Rattle.dc_base.specs.Serving.{Outside, nothing_outside, console_outside, cha
 use Rattle.dc_base.specs.Slices.{Halfway, halfway, need_of, slice_of, slice_end, without_ready}
 use Rattle.dc_base.specs.Sound.{IsSound}
 use Rattle.dc_base.specs.States.{State, Core, Block, Mailbox, Script, Whereabouts, rest, on, with_control, Settings}
-use Rattle.dc_base.specs.Steps.{as_console, as_channel, as_line, core_after_slice, outside_change, slice_turn}
+use Rattle.dc_base.specs.NeededLooks.{as_console, as_channel, as_line, outside_change}
+use Rattle.dc_base.specs.SliceTurns.{core_after_slice, slice_turn}
 use Rattle.dc_base.specs.Turns.{did, outcome}
 use Rattle.dc_base.specs.Words.{bind}
 use Rattle.dc_kernel.specs.declared.drivers.Forward.{Forward}

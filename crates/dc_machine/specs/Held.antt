@@ -5,7 +5,8 @@ use Rattle.dc_base.specs.declared.entries.Entry.{Entry}
 use Rattle.dc_base.specs.Changes.{core_becomes, block_becomes}
 use Rattle.dc_base.specs.Serving.{Outside}
 use Rattle.dc_base.specs.States.{State, Core, Block}
-use Rattle.dc_base.specs.Steps.{outside_change, slice_turn}
+use Rattle.dc_base.specs.NeededLooks.{outside_change}
+use Rattle.dc_base.specs.SliceTurns.{slice_turn}
 use Rattle.dc_base.specs.Turns.{did, outcome}
 use Rattle.dc_kernel.specs.Turned.{look_here}
 use Rattle.dc_machine.specs.Lifts.{SameKind}

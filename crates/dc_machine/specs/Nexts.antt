@@ -7,7 +7,8 @@ use Rattle.dc_base.specs.declared.kernels.Version.{Version}
 use Rattle.dc_base.specs.declared.numbers.BlockNo.{BlockNo}
 use Rattle.dc_base.specs.declared.numbers.DispNo.{DispNo}
 use Rattle.dc_base.specs.States.{Core, Block}
-use Rattle.dc_base.specs.Steps.{is_runnable, next_due}
+use Rattle.dc_base.specs.Steps.{is_runnable}
+use Rattle.dc_base.specs.IdleTurns.{next_due}
 use Rattle.dc_base.specs.Turns.{Looked}
 use Rattle.dc_base.specs.Words.{lesser}
 use Rattle.dc_kernel.specs.declared.drivers.Sliced.{Sliced}

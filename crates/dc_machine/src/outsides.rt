@@ -3,7 +3,7 @@
 ghost use Rattle.std.specs.Prelude.{◌≡◌};
 ghost use Rattle.dc_base.specs.Changes.{apply};
 ghost use Rattle.dc_base.specs.States.{State};
-ghost use Rattle.dc_base.specs.Steps.{outside_change};
+ghost use Rattle.dc_base.specs.NeededLooks.{outside_change};
 ghost use Rattle.dc_kernel.specs.Outsides.{Fits, outside_seen};
 ghost use Rattle.dc_kernel.specs.Turned.{look_in};
 ghost use Rattle.dc_objects.specs.States.{state_of};

@@ -1,6 +1,6 @@
 ghost use Rattle.std.specs.Prelude.{◌≡◌, ◌<◌, ◌+◌, [], ◌∷◌, ◌++◌, ◌==◌, true, false, Some, None};
-ghost use Rattle.dc_base.specs.Outcomes.{has, share_without};
-ghost use Rattle.dc_base.specs.Steps.{with_clock, core_after_slice};
+ghost use Rattle.dc_base.specs.Outcomes.{has, share_without, with_clock};
+ghost use Rattle.dc_base.specs.SliceTurns.{core_after_slice};
 ghost use Rattle.dc_share.specs.Shares.{HasRoom};
 
 use crate::settings::Settings;

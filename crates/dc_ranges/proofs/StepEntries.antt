@@ -12,13 +12,16 @@ use Rattle.dc_base.specs.declared.entries.What.TheVariants as what
 use Rattle.dc_base.specs.Changes.{core_becomes, block_becomes}
 use Rattle.dc_base.specs.ControlBlocks.{ControlBlock}
 use Rattle.dc_base.specs.Firing.{fire_all}
-use Rattle.dc_base.specs.Outcomes.{by_core, share_blocks, if_on, has}
+use Rattle.dc_base.specs.Outcomes.{by_core, share_blocks, if_on, has, with_clock}
 use Rattle.dc_base.specs.Policies.{pick}
 use Rattle.dc_base.specs.Serving.{Outside}
 use Rattle.dc_base.specs.Slices.{Halfway, halfway, need_of, slice_end, without_ready}
 use Rattle.dc_base.specs.Sound.{IsSound}
 use Rattle.dc_base.specs.States.{State, Core, Block, with_control, Member, Whereabouts, rest, on, time_on}
-use Rattle.dc_base.specs.Steps.{with_clock, core_after_slice, look_outside, outside_change, slice_entry, slice_outcome, finish_slice, slice_picked, slice_from, slice_turn, next_due, idle_outcome, step_on, step_turn, is_runnable}
+use Rattle.dc_base.specs.SliceTurns.{core_after_slice, slice_entry, slice_outcome, finish_slice, slice_picked, slice_from, slice_turn}
+use Rattle.dc_base.specs.NeededLooks.{look_outside, outside_change}
+use Rattle.dc_base.specs.IdleTurns.{next_due, idle_outcome}
+use Rattle.dc_base.specs.Steps.{step_on, step_turn, is_runnable}
 use Rattle.dc_base.specs.Turns.{spent, Looked, Turn, ends, look_blocks, looked_at}
 use Rattle.dc_sound.proofs.Advances.{half_ran, end_advance}
 use Rattle.dc_sound.proofs.Budgets.{used-set}

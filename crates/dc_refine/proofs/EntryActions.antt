@@ -25,7 +25,10 @@ use Rattle.dc_base.specs.Turns.{Outcome, did, not_enabled, spent, Looked, Turn, 
 use Rattle.dc_base.specs.Outcomes.{has, share_blocks, if_on, if_here}
 use Rattle.dc_base.specs.Serving.{Outside, console_outside, channel_outside, line_outside}
 use Rattle.dc_base.specs.Slices.{Halfway}
-use Rattle.dc_base.specs.Steps.{look_outside, outside_change, slice_turn, slice_picked, slice_from, finish_slice, next_due, idle_outcome, is_runnable, step_on}
+use Rattle.dc_base.specs.NeededLooks.{look_outside, outside_change}
+use Rattle.dc_base.specs.SliceTurns.{slice_turn, slice_picked, slice_from, finish_slice}
+use Rattle.dc_base.specs.IdleTurns.{next_due, idle_outcome}
+use Rattle.dc_base.specs.Steps.{is_runnable, step_on}
 use Rattle.dc_base.specs.Firing.{Fired}
 use Rattle.dc_base.specs.Wakes.{wake_sender, wake_receiver, wake_waiting, wake_in, after_wake}
 use Rattle.dc_base.specs.Intakes.{intake_outcome, intake_pending, intake_line}

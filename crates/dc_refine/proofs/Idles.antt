@@ -12,8 +12,10 @@ use Rattle.dc_base.specs.Blocks.{Blocks}
 use Rattle.dc_base.specs.BlockSteps.{run_on}
 use Rattle.dc_base.specs.States.{State, Core, Block}
 use Rattle.dc_base.specs.Turns.{spent, Looked, ends, looked_at, look_blocks, outcome}
-use Rattle.dc_base.specs.Outcomes.{by_core, share_blocks, if_on}
-use Rattle.dc_base.specs.Steps.{with_clock, slice_turn, next_due, idle_outcome, is_runnable, step_on, step_turn}
+use Rattle.dc_base.specs.Outcomes.{by_core, share_blocks, if_on, with_clock}
+use Rattle.dc_base.specs.SliceTurns.{slice_turn}
+use Rattle.dc_base.specs.IdleTurns.{next_due, idle_outcome}
+use Rattle.dc_base.specs.Steps.{is_runnable, step_on, step_turn}
 use Rattle.dc_base.specs.StandsFor.{StandsFor}
 use Rattle.dc_base.specs.StrikeOut.{clock_told, events_of, advances, times_after, told_after}
 use Rattle.dc_base.specs.Columns.{columns_agree}

@@ -12,7 +12,8 @@ use Rattle.dc_base.specs.Blocks.{Blocks}
 use Rattle.dc_base.specs.States.{State, Core, Block, Whereabouts, rest, on, time_of, time_at, time_on, clock_of}
 use Rattle.dc_base.specs.Turns.{Looked, looked_at}
 use Rattle.dc_base.specs.Outcomes.{share_blocks}
-use Rattle.dc_base.specs.Steps.{due_clock, due_clocks, next_due, is_runnable, can_run}
+use Rattle.dc_base.specs.IdleTurns.{due_clock, due_clocks, next_due}
+use Rattle.dc_base.specs.Steps.{is_runnable, can_run}
 use Rattle.dc_base.specs.StandsFor.{StandsFor}
 use Rattle.dc_base.specs.CoreColumns.{waits_of}
 use Rattle.dc_base.specs.Holders.{held_by}

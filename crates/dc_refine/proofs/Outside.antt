@@ -12,7 +12,7 @@ use Rattle.dc_base.specs.States.{State, Settings, Core, Block}
 use Rattle.dc_base.specs.Serving.{Outside, nothing_outside, console_outside, channel_outside, line_outside}
 use Rattle.dc_base.specs.Changes.{apply}
 use Rattle.dc_base.specs.Turns.{Outcome, outcome, ends}
-use Rattle.dc_base.specs.Steps.{as_console, as_channel, as_line, look_outside, outside_change}
+use Rattle.dc_base.specs.NeededLooks.{as_console, as_channel, as_line, look_outside, outside_change}
 use Rattle.dc_refine.proofs.Elements.{slice_set-same}
 
 -- the object that block b needs

@@ -20,7 +20,7 @@ use Rattle.dc_base.specs.States.{State, Block, with_control, time_of}
 use Rattle.dc_base.specs.Shown.{life_of}
 use Rattle.dc_base.specs.StandsFor.{StandsFor, ring_of, counts_of, LatchesAgree, fate_at, signal_of}
 use Rattle.dc_base.specs.Serving.{need, nothing_outside, console_outside, Served, faulted, held_up, served, serve_send, serve_receive, serve_claim, serve}
-use Rattle.dc_base.specs.Steps.{as_channel, as_line, as_console, outside_change}
+use Rattle.dc_base.specs.NeededLooks.{as_channel, as_line, as_console, outside_change}
 use Rattle.dc_base.specs.BlockCalls as calls
 use Rattle.dc_base.specs.declared.calls.Need.{Need}
 use Rattle.dc_base.specs.declared.calls.Need.TheVariants as needs

@@ -25,8 +25,9 @@ use Rattle.dc_base.specs.Effects.{Context, act}
 use Rattle.dc_base.specs.BlockSteps.{run_on}
 use Rattle.dc_base.specs.Ahead.{Ahead, AheadEnd, at_quantum, at_halt, at_trap, at_call, ahead}
 use Rattle.dc_base.specs.Firing.{Fired, fire_all}
-use Rattle.dc_base.specs.Steps.{with_clock, core_after_slice, outside_change, slice_entry, slice_outcome}
-use Rattle.dc_base.specs.Outcomes.{share_with_last}
+use Rattle.dc_base.specs.SliceTurns.{core_after_slice, slice_entry, slice_outcome}
+use Rattle.dc_base.specs.NeededLooks.{outside_change}
+use Rattle.dc_base.specs.Outcomes.{share_with_last, with_clock}
 use Rattle.dc_base.specs.Columns.{columns_agree}
 use Rattle.dc_base.specs.SliceColumns.{SliceColumns, slice_agrees, agrees_after, after_instrs, none_due, end_agrees, advance_of}
 use Rattle.dc_base.specs.Progress.{boot_of}

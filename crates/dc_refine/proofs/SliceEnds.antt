@@ -28,7 +28,7 @@ use Rattle.dc_base.specs.declared.calls.Need.{Need}
 use Rattle.dc_base.specs.BlockCalls.{Reply, reply}
 use Rattle.dc_base.specs.Serving.{need, Served, faulted, held_up, served, serve}
 use Rattle.dc_base.specs.Firing.{wake_if, wake}
-use Rattle.dc_base.specs.Steps.{outside_change}
+use Rattle.dc_base.specs.NeededLooks.{outside_change}
 use Rattle.dc_base.specs.SliceColumns.{SliceColumns, end_agrees, advance_of}
 use Rattle.dc_refine.proofs.Elements.{slice_set-same, slice_get-set_same}
 use Rattle.dc_refine.proofs.Leads.{Leads, leads_none, with_block, IsAt}

@@ -16,8 +16,8 @@ use Rattle.dc_base.specs.Answers.{boot_after, answered_after, from_on}
 use Rattle.dc_base.specs.Runs.{Terms, block_clock}
 use Rattle.dc_base.specs.BlockSteps.{run_on}
 use Rattle.dc_base.specs.Firing.{Fired, fire_all}
-use Rattle.dc_base.specs.Steps.{with_clock, empty_outcome}
-use Rattle.dc_base.specs.Outcomes.{share_with_last, by_core}
+use Rattle.dc_base.specs.SliceTurns.{empty_outcome}
+use Rattle.dc_base.specs.Outcomes.{share_with_last, by_core, with_clock}
 use Rattle.dc_base.specs.Columns.{columns_agree}
 use Rattle.dc_base.specs.SliceColumns.{none_slice_agrees, after_fires, none_due}
 use Rattle.dc_base.specs.Progress.{boot_of}

@@ -21,7 +21,7 @@ use Rattle.dc_base.specs.Effects.{Context}
 use Rattle.dc_base.specs.Firing.{Fired, fire_all}
 use Rattle.dc_base.specs.Ahead.{ahead}
 use Rattle.dc_base.specs.Turns.{outcome}
-use Rattle.dc_base.specs.Steps.{slice_turn, slice_from, slice_at, slice_picked, finish_slice, slice_outcome}
+use Rattle.dc_base.specs.SliceTurns.{slice_turn, slice_from, slice_picked, finish_slice, slice_outcome}
 use Rattle.dc_base.specs.Outcomes.{has}
 use Rattle.dc_base.specs.Bounded.{IsFromZero}
 use Rattle.dc_base.specs.Placed.{IsOn}
@@ -114,7 +114,7 @@ module _ (terms : Terms) (lines : List ScriptLine) (s : State) (t : Blocks) (of 
     placed_good (rest kept) e = tt
     placed_good (on core z v) e =
         let now : time_of s.cores x.whereabouts ≡ time_at k.clock (on core z v) = time_here s c k x.whereabouts core_at here.1.on_core ∙ ap (time_at k.clock) e in
-        subst (λ time. Good terms lines s t (outcome s (slice_at c k b x time v (fire_all time x.control)))) now
+        subst (λ time. Good terms lines s t (outcome s (slice_picked c k b x time v (fire_all time x.control) (pick v (fire_all time x.control).control.dues (fire_all time x.control).control.ready)))) now
         (picked_good v (pick v f.control.dues f.control.ready) refl)
 
     -- a slice of the block follows

@@ -27,7 +27,9 @@ use Rattle.dc_base.specs.States as states_
 use Rattle.dc_base.specs.Firing as firing_
 use Rattle.dc_base.specs.Serving as serving_
 use Rattle.dc_base.specs.Slices as slices_
-use Rattle.dc_base.specs.Steps as steps_
+use Rattle.dc_base.specs.NeededLooks as neededlooks_
+use Rattle.dc_base.specs.SliceTurns as sliceturns_
+use Rattle.dc_base.specs.IdleTurns as idleturns_
 use Rattle.dc_base.specs.Orders as orders_
 use Rattle.dc_base.specs.Cores as cores_
 use Rattle.dc_base.specs.CoreRuns as coreruns_
@@ -68,8 +70,8 @@ machine_of_blocks = tt
 -- what the machine with cores and its reports are computed by
 unfoldable pub machine_with_cores : Unit {0}
 unfolding shared_parts policies_.pick policies_.next_block controlblocks_.control_start states_.core_start firing_.wake firing_.latch_in
-    firing_.fire_all serving_.need serving_.serve slices_.halfway slices_.slice_end slices_.slice_of steps_.look_outside steps_.outside_change
-    steps_.slice_turn steps_.idle_outcome orders_.carry_out cores_.turn_of cores_.core_step coreruns_.core_run_from coreruns_.core_run
+    firing_.fire_all serving_.need serving_.serve slices_.halfway slices_.slice_end slices_.slice_of neededlooks_.look_outside neededlooks_.outside_change
+    sliceturns_.slice_turn idleturns_.idle_outcome orders_.carry_out cores_.turn_of cores_.core_step coreruns_.core_run_from coreruns_.core_run
     report_.latches_of report_.report_lines histories_.touched histories_.IsLawful histories_.next progress_.boot_of objects_.object_number
     objects_.name_at objects_.at_number objects_.objects objects_.touched_numbers
 machine_with_cores = tt

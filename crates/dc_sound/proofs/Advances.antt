@@ -19,7 +19,8 @@ use Rattle.dc_base.specs.Outcomes.{share_blocks, has}
 use Rattle.dc_base.specs.Serving.{need, serve, Served, faulted, held_up, served, Outside}
 use Rattle.dc_base.specs.Slices.{Halfway, stopped, stands, after_ahead, halfway, slice_end, after_served}
 use Rattle.dc_base.specs.States.{Block, Member, time_on}
-use Rattle.dc_base.specs.Steps.{can_run, is_runnable, due_clock, due_clocks, next_due}
+use Rattle.dc_base.specs.Steps.{can_run, is_runnable}
+use Rattle.dc_base.specs.IdleTurns.{due_clock, due_clocks, next_due}
 use Rattle.dc_base.specs.Timers.{is_sooner, sooner, soonest, if_due, due_timer, is_due}
 use Rattle.dc_base.specs.Turns.{Looked, looked_at}
 use Rattle.dc_base.specs.Words.{bind, Each, above_zero, least, lesser}

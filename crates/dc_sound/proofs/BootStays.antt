@@ -9,7 +9,8 @@ use Rattle.dc_base.specs.Changes.{Change, core_becomes, block_becomes, channel_b
 use Rattle.dc_base.specs.Placed.{AreShares}
 use Rattle.dc_base.specs.Progress.{booted_of, boot_of}
 use Rattle.dc_base.specs.States.{State, Core, Block, Member, core_in}
-use Rattle.dc_base.specs.Steps.{core_after_slice, with_clock}
+use Rattle.dc_base.specs.SliceTurns.{core_after_slice}
+use Rattle.dc_base.specs.Outcomes.{with_clock}
 use Rattle.dc_sound.proofs.EntryKinds.{HasTurn, IsSlice, IsSliceNone, IsIdle, IsWake, IsIntake, IsPost, IsDone, IsRefused, IsRoute, IsAwaited, IsRaise, sliced_of, slice_changes, Before, first_post, next_post}
 use Rattle.dc_sound.proofs.Registry.{boot_turned, boot_same}
 use Rattle.dc_sound.proofs.Rules.{Rule, no_rule, Fine, fine_append, fine_outside}

@@ -8,9 +8,9 @@ use Rattle.dc_base.specs.declared.entries.Entry.{Entry}
 use Rattle.dc_base.specs.Bounded.{budget}
 use Rattle.dc_base.specs.Changes.{Change, apply}
 use Rattle.dc_base.specs.Orders.{block_at_rest, block_under}
-use Rattle.dc_base.specs.Outcomes.{share_without}
+use Rattle.dc_base.specs.Outcomes.{share_without, with_clock}
 use Rattle.dc_base.specs.States.{State, Core}
-use Rattle.dc_base.specs.Steps.{core_after_slice, with_clock}
+use Rattle.dc_base.specs.SliceTurns.{core_after_slice}
 use Rattle.dc_sound.proofs.EntryKinds.{IsSlice, sliced_of, slice_changes, Kind, is_slice, is_slice_none, is_idle, is_wake, is_intake, is_start, is_stop, is_replace, is_adopt, is_release, is_post, is_done, is_refused, is_route, is_awaited, is_raise}
 use Rattle.dc_block_sound.proofs.Elements.{all_cores}
 use Rattle.dc_sound.proofs.CoresAfter.{outside_cores, post_cores, done_cores}

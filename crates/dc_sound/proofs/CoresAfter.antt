@@ -6,7 +6,7 @@ use Rattle.dc_base.specs.declared.commands.Command.{Command}
 use Rattle.dc_base.specs.Changes.{Change, apply, mailbox_becomes, script_becomes}
 use Rattle.dc_base.specs.Serving.{Outside, console_outside, channel_outside, line_outside}
 use Rattle.dc_base.specs.States.{State, Mailbox, Script}
-use Rattle.dc_base.specs.Steps.{outside_change}
+use Rattle.dc_base.specs.NeededLooks.{outside_change}
 use Rattle.dc_sound.proofs.EntryKinds.{Before, first_post, next_post}
 
 pub outside_cores : (b : ℕ) (w : Need) (out : Outside) (u : State) → (apply u (outside_change b w out)).cores ≡ u.cores

@@ -39,7 +39,7 @@ use Rattle.dc_base.specs.KeptByBlocks.{is_ready}
 use Rattle.dc_base.specs.Lines.{Wire, wire_after_raise, wire_after_intake, line_latch}
 use Rattle.dc_base.specs.Orders.{acked, change_all, block_at_rest, block_under, adopted_time, adopt_outcome, release_outcome, carry_out, order_turn}
 use Rattle.dc_base.specs.NeedsHere.{need_here}
-use Rattle.dc_base.specs.Outcomes.{by_script, if_on, share_blocks, share_without, has, if_here}
+use Rattle.dc_base.specs.Outcomes.{by_script, if_on, share_blocks, share_without, has, if_here, with_clock}
 use Rattle.dc_base.specs.Policies.{pick}
 use Rattle.dc_base.specs.Ports.{latch_at, how_latched}
 use Rattle.dc_base.specs.Raises.{raise_on, raise_line, raise_turn, first_unbegun}
@@ -47,7 +47,10 @@ use Rattle.dc_base.specs.Script.{next_raise}
 use Rattle.dc_base.specs.Serving.{Outside}
 use Rattle.dc_base.specs.Slices.{Sliced, Halfway, halfway, need_of, slice_end, without_ready}
 use Rattle.dc_base.specs.States.{State, Core, Block, with_control, Member, Mailbox, empty, order, ack, Script, Whereabouts, rest, on, time_on, time_at, place_on}
-use Rattle.dc_base.specs.Steps.{with_clock, core_after_slice, look_outside, outside_change, slice_outcome, finish_slice, slice_picked, slice_from, slice_turn, next_due, idle_outcome, step_on, step_turn, is_runnable}
+use Rattle.dc_base.specs.SliceTurns.{core_after_slice, slice_outcome, finish_slice, slice_picked, slice_from, slice_turn}
+use Rattle.dc_base.specs.NeededLooks.{look_outside, outside_change}
+use Rattle.dc_base.specs.IdleTurns.{next_due, idle_outcome}
+use Rattle.dc_base.specs.Steps.{step_on, step_turn, is_runnable}
 use Rattle.dc_base.specs.Turns.{Outcome, did, not_enabled, spent, Looked, Turn, ends, look_blocks, look_block, look_line, looked_at, outcome}
 use Rattle.dc_base.specs.Wakes.{ready_again, after_wake, wake_sender, wake_receiver, wake_waiting, wake_in, wake_turn}
 use Rattle.dc_base.specs.Words.{is_number}

@@ -9,10 +9,10 @@ use Rattle.dc_base.specs.Commands.{at_next_command}
 use Rattle.dc_base.specs.Firing.{latch_in}
 use Rattle.dc_base.specs.Lines.{wire_after_raise, wire_after_intake, line_latch}
 use Rattle.dc_base.specs.Orders.{block_at_rest, block_under, adopted_time}
-use Rattle.dc_base.specs.Outcomes.{share_without}
+use Rattle.dc_base.specs.Outcomes.{share_without, with_clock}
 use Rattle.dc_base.specs.Ports.{latch_at, how_latched}
 use Rattle.dc_base.specs.States.{State, with_control, Block, empty, order, ack, time_at, place_on}
-use Rattle.dc_base.specs.Steps.{core_after_slice, with_clock}
+use Rattle.dc_base.specs.SliceTurns.{core_after_slice}
 use Rattle.dc_base.specs.Wakes.{ready_again}
 use Rattle.dc_base.specs.Boot as boot
 use Rattle.dc_sound.proofs.EntryKinds.{IsSlice, IsSliceNone, IsIdle, IsWake, IsIntake, IsStart, IsStop, IsReplace, IsAdopt, IsRelease, IsPost, IsDone, IsRefused, IsRoute, IsAwaited, IsRaise, Before, first_post, next_post, slice_changes, sliced_of, after_timers, Kind, is_slice, is_slice_none, is_idle, is_wake, is_intake, is_start, is_stop, is_replace, is_adopt, is_release, is_post, is_done, is_refused, is_route, is_awaited, is_raise}

@@ -21,7 +21,8 @@ use Rattle.dc_base.specs.Parts.{Parts}
 use Rattle.dc_base.specs.Serving.{need, Outside, line_outside, serve, serve_claim}
 use Rattle.dc_base.specs.Slices.{Halfway, stopped, stands, after_served, slice_end, due_after, Sliced, need_of}
 use Rattle.dc_base.specs.States.{State, Core, Block, with_control, time_on}
-use Rattle.dc_base.specs.Steps.{as_line, outside_change, core_after_slice}
+use Rattle.dc_base.specs.NeededLooks.{as_line, outside_change}
+use Rattle.dc_base.specs.SliceTurns.{core_after_slice}
 use Rattle.dc_block_sound.proofs.CapForms.{keeps_caps, Limited}
 use Rattle.dc_block_sound.proofs.ControlSteps.{Steps, kept_along}
 use Rattle.dc_block_sound.proofs.Elements.{same_is, same_some}

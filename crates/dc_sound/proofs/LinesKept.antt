@@ -13,7 +13,7 @@ use Rattle.dc_base.specs.Lines.{Wire, wire_after, wire_after_raise, wire_after_i
 use Rattle.dc_base.specs.Parts.{Parts}
 use Rattle.dc_base.specs.Slices.{Halfway, stopped, stands, need_of, slice_end}
 use Rattle.dc_base.specs.States.{State, Core, Block, with_control}
-use Rattle.dc_base.specs.Steps.{outside_change}
+use Rattle.dc_base.specs.NeededLooks.{outside_change}
 use Rattle.dc_block_sound.proofs.ControlSteps.{Steps}
 use Rattle.dc_block_sound.proofs.Elements.{SetCase, set_now, set_before, set_case}
 use Rattle.dc_block_sound.proofs.OutsideAt.{outside_at}

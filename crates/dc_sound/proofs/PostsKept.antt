@@ -14,7 +14,7 @@ use Rattle.dc_base.specs.Placed.{IsPlaced, homes_in, parked_in}
 use Rattle.dc_base.specs.Progress.{last_of, last_post, orders_now, posted_to, MailboxesFollow, PostsFit, Fits, IsRest, IsAtRest, HasRoom, IsRegistered}
 use Rattle.dc_base.specs.ScriptForm.{IsInForm}
 use Rattle.dc_base.specs.States.{State, Core, Block, Member, Mailbox, empty, order, ack, Script}
-use Rattle.dc_base.specs.Steps.{core_after_slice}
+use Rattle.dc_base.specs.SliceTurns.{core_after_slice}
 use Rattle.dc_sound.proofs.EntryKinds.{HasOrder, StandsAt, IsPost, sliced_of, slice_changes, Before, first_post, next_post, Kind, is_slice, is_slice_none, is_idle, is_wake, is_intake, is_start, is_stop, is_replace, is_adopt, is_release, is_post, is_done, is_refused, is_route, is_awaited, is_raise}
 use Rattle.dc_sound.proofs.CoresAfter.{post_cores}
 use Rattle.dc_block_sound.proofs.Elements.{SetCase, set_now, set_before, set_case, same_some}

@@ -21,7 +21,7 @@ use Rattle.dc_base.specs.Progress.{boot_command, command_at, orders_now, last_of
 use Rattle.dc_base.specs.ScriptForm.{IsInForm}
 use Rattle.dc_base.specs.Serving.{Outside, console_outside, channel_outside, line_outside}
 use Rattle.dc_base.specs.States.{State, Core, Block, Member, Mailbox, order, ack, Script}
-use Rattle.dc_base.specs.Steps.{outside_change}
+use Rattle.dc_base.specs.NeededLooks.{outside_change}
 use Rattle.dc_base.specs.Turns.{looked_at}
 use Rattle.dc_base.specs.Words.{bind}
 use Rattle.dc_sound.proofs.EntryKinds.{HasOrder, StandsAt, IsPost, IsDone, sliced_of, slice_changes, Before, first_post, next_post, Kind, is_slice, is_slice_none, is_idle, is_wake, is_intake, is_start, is_stop, is_replace, is_adopt, is_release, is_post, is_done, is_refused, is_route, is_awaited, is_raise}

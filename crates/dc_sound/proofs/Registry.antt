@@ -9,7 +9,7 @@ use Rattle.dc_base.specs.Outcomes.{share_with_last}
 use Rattle.dc_base.specs.Placed.{homes_in}
 use Rattle.dc_base.specs.Progress.{booted_of, parked_blocks, home_block, boot_of}
 use Rattle.dc_base.specs.States.{core_in, State, Core, Block, Member}
-use Rattle.dc_base.specs.Steps.{core_after_slice}
+use Rattle.dc_base.specs.SliceTurns.{core_after_slice}
 use Rattle.dc_base.specs.Words.{with_number}
 
 -- inserting in either order

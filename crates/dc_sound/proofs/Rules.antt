@@ -10,7 +10,7 @@ use Rattle.dc_base.specs.Lines.{Wire}
 use Rattle.dc_base.specs.Orders.{change_all}
 use Rattle.dc_base.specs.Serving.{Outside, console_outside, channel_outside, line_outside}
 use Rattle.dc_base.specs.States.{State, Core, Block, Mailbox, Script}
-use Rattle.dc_base.specs.Steps.{outside_change}
+use Rattle.dc_base.specs.NeededLooks.{outside_change}
 use Rattle.dc_base.specs.Turns.{Looked, looked_at}
 use Rattle.dc_base.specs.Words.{Each}
 

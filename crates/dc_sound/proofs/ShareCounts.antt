@@ -10,7 +10,7 @@ use Rattle.dc_base.specs.Outcomes.{has, share_with_last, share_without}
 use Rattle.dc_base.specs.Placed.{IsShare, AreShares, count_in, homes_in, parked_in, IsPlaced, IsOn}
 use Rattle.dc_base.specs.Progress.{PostsFit, IsAtRest, HasRoom}
 use Rattle.dc_base.specs.States.{State, Core, Block, Member}
-use Rattle.dc_base.specs.Steps.{core_after_slice}
+use Rattle.dc_base.specs.SliceTurns.{core_after_slice}
 use Rattle.dc_sound.proofs.EntryKinds.{Kind, IsAdopt}
 use Rattle.dc_sound.proofs.Rules.{Rule, no_rule, Obeys, kept}
 use Rattle.dc_block_sound.proofs.Elements.{same_some, is_same}

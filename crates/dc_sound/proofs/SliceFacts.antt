@@ -15,7 +15,7 @@ use Rattle.dc_base.specs.Parts.{Parts}
 use Rattle.dc_base.specs.Serving.{need, Outside, console_outside, channel_outside, line_outside, Served, faulted, served, serve, serve_send, serve_receive, serve_claim, nothing_outside}
 use Rattle.dc_base.specs.Slices.{Halfway, stopped, stands, need_of, after_served, slice_end}
 use Rattle.dc_base.specs.States.{State, Settings}
-use Rattle.dc_base.specs.Steps.{as_console, as_channel, as_line, outside_change}
+use Rattle.dc_base.specs.NeededLooks.{as_console, as_channel, as_line, outside_change}
 use Rattle.dc_block_sound.proofs.OutsideAt.{outside_at, here_or_none}
 use Rattle.dc_sound.proofs.Rules.{Rule, Obeys, Fine}
 

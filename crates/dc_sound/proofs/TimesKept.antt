@@ -12,11 +12,12 @@ use Rattle.dc_base.specs.declared.interrupts.Timer.{Timer}
 use Rattle.dc_base.specs.Bounded.{DeadlinesWithin, budget, IsFromZero, IsClocked, IsSettled}
 use Rattle.dc_base.specs.Changes.{Change, apply, block_becomes}
 use Rattle.dc_base.specs.Orders.{change_all, under, block_under, block_at_rest, acked, adopted_time}
-use Rattle.dc_base.specs.Outcomes.{share_blocks, share_without}
+use Rattle.dc_base.specs.Outcomes.{share_blocks, share_without, with_clock}
 use Rattle.dc_base.specs.Placed.{IsOn, IsPlaced}
 use Rattle.dc_base.specs.Progress.{PostsFit, IsRest, IsAtRest}
 use Rattle.dc_base.specs.States.{State, Core, Block, Whereabouts, rest, on, time_on, time_at, time_of, clock_of, place_on}
-use Rattle.dc_base.specs.Steps.{due_clock, core_after_slice, with_clock}
+use Rattle.dc_base.specs.IdleTurns.{due_clock}
+use Rattle.dc_base.specs.SliceTurns.{core_after_slice}
 use Rattle.dc_base.specs.Timers.{is_due}
 use Rattle.dc_base.specs.Turns.{looked_at}
 use Rattle.dc_base.specs.Words.{Each, above_zero}

@@ -39,7 +39,10 @@ use Rattle.dc_base.specs.NeedsHere.{need_here}
 use Rattle.dc_base.specs.Slices.{Halfway, stopped, stands, halfway, need_of, slice_end, after_served, with_due, without_ready}
 use Rattle.dc_base.specs.Changes.{Name, a_core, a_block, a_channel, a_line, a_mailbox, a_console, the_script, Change, block_becomes, mailbox_becomes, name_of}
 use Rattle.dc_base.specs.Turns.{Outcome, did, not_enabled, spent, Looked, Turn, ends, look_core, look_blocks, look_block, look_channel, look_line, look_mailbox, look_console, look_script, looked_at, outcome, looks}
-use Rattle.dc_base.specs.Steps.{as_console, as_channel, as_line, look_outside, outside_change, finish_slice, slice_picked, slice_from, slice_turn, next_due, idle_outcome, step_on, step_turn, is_runnable}
+use Rattle.dc_base.specs.NeededLooks.{as_console, as_channel, as_line, look_outside, outside_change}
+use Rattle.dc_base.specs.SliceTurns.{finish_slice, slice_picked, slice_from, slice_turn}
+use Rattle.dc_base.specs.IdleTurns.{next_due, idle_outcome}
+use Rattle.dc_base.specs.Steps.{step_on, step_turn, is_runnable}
 use Rattle.dc_base.specs.Outcomes.{if_on, share_blocks, has, if_here}
 use Rattle.dc_base.specs.Wakes.{after_wake, wake_sender, wake_receiver, wake_waiting, wake_in, wake_turn}
 use Rattle.dc_base.specs.Intakes.{intake_outcome, intake_pending, intake_line, intake_turn}

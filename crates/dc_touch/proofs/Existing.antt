@@ -44,7 +44,9 @@ use Rattle.dc_base.specs.Serving.{need, Outside}
 use Rattle.dc_base.specs.Slices.{Halfway, stopped, stands, halfway, need_of, slice_end, without_ready}
 use Rattle.dc_base.specs.Sound.{IsSound}
 use Rattle.dc_base.specs.States.{State, Core, Block, Member, Mailbox, empty, order, ack, Script, Settings, Whereabouts, rest, on, time_on}
-use Rattle.dc_base.specs.Steps.{look_outside, slice_outcome, finish_slice, slice_picked, slice_from, slice_turn, step_on, is_runnable}
+use Rattle.dc_base.specs.NeededLooks.{look_outside}
+use Rattle.dc_base.specs.SliceTurns.{slice_outcome, finish_slice, slice_picked, slice_from, slice_turn}
+use Rattle.dc_base.specs.Steps.{step_on, is_runnable}
 use Rattle.dc_base.specs.CoreTouches.{needed}
 use Rattle.dc_base.specs.Turns.{Outcome, did, not_enabled, spent, Looked, Turn, ends, look_block, look_blocks, looked_at, outcome, looks}
 use Rattle.dc_base.specs.Wakes.{wake_sender, wake_receiver, wake_waiting, wake_in, wake_turn}

@@ -18,7 +18,10 @@ use Rattle.dc_base.specs.Slices.{Halfway, need_of, slice_end}
 use Rattle.dc_base.specs.Changes.{Name, a_core, a_channel, a_line, a_console, Change}
 use Rattle.dc_base.specs.Turns.{spent, Looked, Turn, ends, look_blocks, looked_at}
 use Rattle.dc_base.specs.Outcomes.{share_blocks, if_on}
-use Rattle.dc_base.specs.Steps.{as_console, as_channel, as_line, look_outside, slice_outcome, finish_slice, slice_picked, slice_from, slice_turn, is_runnable, next_due, idle_outcome, step_on, step_turn}
+use Rattle.dc_base.specs.NeededLooks.{as_console, as_channel, as_line, look_outside}
+use Rattle.dc_base.specs.SliceTurns.{slice_outcome, finish_slice, slice_picked, slice_from, slice_turn}
+use Rattle.dc_base.specs.Steps.{is_runnable, step_on, step_turn}
+use Rattle.dc_base.specs.IdleTurns.{next_due, idle_outcome}
 use Rattle.dc_base.specs.CoreTouches.{with_share, needed, half_needs, half_slice, slice_needs}
 use Rattle.dc_touch.proofs.Tabled.{IsTabled, refused, ran_out, made_by_core, seen, either, when_on}
 

@@ -2,7 +2,7 @@
 use Rattle.std.proofs.Common.{◌≡◌, Some, refl, sym, ap, ◌∙◌, subst}
 use Rattle.std.proofs.lemmas.Option.{get_or_from_slice_get}
 use Rattle.dc_base.specs.States.{State, Core}
-use Rattle.dc_base.specs.Steps.{idle_outcome}
+use Rattle.dc_base.specs.IdleTurns.{idle_outcome}
 use Rattle.dc_objects.specs.States.{state_of}
 use Rattle.dc_machine.specs.Answers.{Answers}
 use Rattle.dc_machine.proofs.steps.idle.Goals as goal

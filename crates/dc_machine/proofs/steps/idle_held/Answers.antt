@@ -5,7 +5,7 @@ use Rattle.dc_base.specs.declared.entries.Entry.{Entry}
 use Rattle.dc_base.specs.declared.entries.What.TheVariants as what
 use Rattle.dc_base.specs.Changes.{core_becomes}
 use Rattle.dc_base.specs.States.{Core}
-use Rattle.dc_base.specs.Steps.{idle_outcome}
+use Rattle.dc_base.specs.IdleTurns.{idle_outcome}
 use Rattle.dc_base.specs.Turns.{did}
 use Rattle.dc_machine.proofs.steps.idle_held.Goals as goal
 

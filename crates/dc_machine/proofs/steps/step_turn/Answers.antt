@@ -2,7 +2,7 @@
 use Rattle.std.proofs.Common.{◌≡◌, Some, refl, sym, ap, ◌∙◌, subst, slice_get, length}
 use Rattle.std.proofs.lemmas.Option.{slice_get_read, same_Some}
 use Rattle.dc_base.specs.States.{State, Core, Block}
-use Rattle.dc_base.specs.Steps.{idle_outcome}
+use Rattle.dc_base.specs.IdleTurns.{idle_outcome}
 use Rattle.dc_kernel.specs.Forwards.{IsForward}
 use Rattle.dc_objects.specs.Blocks.{running_of}
 use Rattle.dc_objects.specs.States.{state_of}
