@@ -24,15 +24,15 @@ use Rattle.dc_exec.specs.Ends.{end_seen}
 use Rattle.dc_exec.specs.Slices.{ahead_seen}
 use Rattle.dc_block_sound.specs.SoundControls.{IsSoundControl, IsSoundBesideReady, Suits}
 use Rattle.dc_kernel.specs.declared.drivers.Forward.{Forward}
-use Rattle.dc_kernel.specs.declared.drivers.Sliced.{Sliced}
-use Rattle.dc_kernel.specs.declared.outsides.Outside.{Outside}
-use Rattle.dc_kernel.specs.declared.outsides.Outside.TheVariants as outside
+use Rattle.dc_calls.specs.declared.sliced.Sliced.{Sliced}
+use Rattle.dc_calls.specs.declared.outsides.Outside.{Outside}
+use Rattle.dc_calls.specs.declared.outsides.Outside.TheVariants as outside
 use Rattle.dc_kernel.specs.Done.{Done, done_by, done_empty, done_picked, done, told}
 use Rattle.dc_kernel.specs.Forwards.{number_of, ahead_at, need_in, IsForward}
-use Rattle.dc_kernel.specs.Outsides.{outside_seen, Fits}
+use Rattle.dc_calls.specs.Outsides.{outside_seen, Fits}
 use Rattle.dc_kernel.specs.Running.{Running}
-use Rattle.dc_kernel.specs.Serves.{IsRunning}
-use Rattle.dc_kernel.specs.Slices.{after_plain, half_of, sliced_seen, OffersWithin}
+use Rattle.dc_calls.specs.Serves.{IsRunning}
+use Rattle.dc_calls.specs.Slices.{after_plain, half_of, sliced_seen, OffersWithin}
 use Rattle.dc_kernel.proofs.FiredParts.{fired_alike}
 
 -- a plain part runs at most as many instructions as the quantum

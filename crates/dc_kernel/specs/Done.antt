@@ -8,7 +8,7 @@ use Rattle.dc_base.specs.ControlBlocks.{ControlBlock}
 use Rattle.dc_base.specs.Firing.{Fired}
 use Rattle.dc_base.specs.Serving.{Outside, nothing_outside}
 use Rattle.dc_base.specs.Slices as slice
-use Rattle.dc_kernel.specs.declared.drivers.Sliced.{Sliced}
+use Rattle.dc_calls.specs.declared.sliced.Sliced.{Sliced}
 use Rattle.dc_kernel.specs.Running.{Running, time_in}
 use Rattle.dc_kernel.specs.Forwards.{number_of, fired, picked}
 

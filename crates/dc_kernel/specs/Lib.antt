@@ -1,13 +1,6 @@
-pub mod Contexts
 pub mod Done
-pub mod Ends
 pub mod Forwards
 pub mod Kernels
-pub mod Outsides
-pub mod Queued
 pub mod Running
-pub mod Serves
 pub mod Sides
-pub mod Slices
-pub mod Tested
 pub mod Turned

@@ -2,13 +2,13 @@
 
 ghost use Rattle.std.specs.Prelude.{◌||◌};
 
-use crate::drivers::{Driver, Forward, Sliced};
-use crate::outsides::Outside;
+use crate::drivers::{Driver, Forward};
 use arrayvec::ArrayVec;
 use dc_base::capabilities::Cap;
 use dc_base::interrupts::{Latch, Latched, Timer};
 use dc_base::kernels::Version;
 use dc_base::numbers::{BlockNo, CoreNo, DispNo, PortNo, SignalNo, SlotNo};
+use dc_calls::{Outside, Sliced};
 use dc_isa::Dispatcher;
 use dc_kcb::Kcb;
 use dc_ports::Port;

@@ -19,17 +19,17 @@ ghost use Rattle.dc_caps.specs.Caps.{IsCap};
 ghost use Rattle.dc_ready.specs.Entries.{dispatchers, entries_of, AreDues, IsReadyList};
 ghost use Rattle.dc_kcb.specs.Readings.{disp_at};
 ghost use Rattle.dc_kernel.specs.Running.{Running, on_core, time_in, IsTimely, adopted, surrendered};
-ghost use Rattle.dc_kernel.specs.Outsides.{outside_seen, HasRoom, Fits};
+ghost use Rattle.dc_calls.specs.Outsides.{outside_seen, HasRoom, Fits};
 ghost use Rattle.dc_kernel.specs.Forwards.{IsQuantum, IsForward, IsSomeForward};
 ghost use Rattle.dc_kernel.specs.Done.{done, told};
 
-use crate::outsides::Outside;
 use arrayvec::ArrayVec;
-use dc_base::calls::{End, Need};
+use dc_base::calls::Need;
 use dc_base::capabilities::Cap;
 use dc_base::interrupts::{Latch, Latched, Timer};
 use dc_base::kernels::Version;
 use dc_base::numbers::{BlockNo, CoreNo, DispNo, PortNo, SignalNo, SlotNo};
+use dc_calls::{Outside, Sliced};
 use dc_exec::Ahead;
 use dc_isa::Dispatcher;
 use dc_kcb::Kcb;
@@ -41,16 +41,6 @@ pub struct Forward {
     pub disp: Option<DispNo>,
     pub ahead: Option<Ahead>,
     pub need: Need,
-}
-
-/// What a slice did: the dispatcher that ran, how many timers fired, how many plain instructions ran, its end, and how far it takes the core's clock.
-#[derive(Clone, Copy, Debug, PartialEq, Eq)]
-pub struct Sliced {
-    pub disp: Option<DispNo>,
-    pub fired: u32,
-    pub ran: u32,
-    pub end: End,
-    pub advance: u32,
 }
 
 /// A kernel with the block that it drives. `now` is the core's clock, from 0 to 2^63 - 1, and so is the block's time then.

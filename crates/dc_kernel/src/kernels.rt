@@ -2,11 +2,9 @@
 
 ghost use Rattle.std.specs.Prelude.{◌≡◌, None};
 ghost use Rattle.dc_base.specs.declared.calls.End.TheVariants as end;
-ghost use Rattle.dc_kernel.specs.Slices.{OffersWithin};
+ghost use Rattle.dc_calls.specs.Slices.{OffersWithin};
 
-use crate::drivers::{Driver, Forward, Sliced};
-use crate::forms::Form;
-use crate::outsides::Outside;
+use crate::drivers::{Driver, Forward};
 use arrayvec::ArrayVec;
 use dc_base::calls::{End, Need};
 use dc_base::capabilities::Cap;
@@ -17,6 +15,7 @@ use dc_block_sound::{
     aheads_keep_controls, firing_keeps_controls, latching_keeps_controls, picked_is_ready,
     ready_stand_once, slices_keep_controls, waking_keeps_controls,
 };
+use dc_calls::{Form, Outside, Sliced};
 use dc_isa::Dispatcher;
 use dc_kcb::Kcb;
 use dc_ports::Port;
@@ -100,11 +99,11 @@ impl<R: ReadyList + Send + Sync, T: TimerQueue + Send + Sync> Driver for Kernel<
     }
 
     fn runnable(&self, now: u64) -> bool {
-        self.form.agenda.can_run(self.clock.time(now))
+        self.form.can_run(self.clock.time(now))
     }
 
     fn earliest(&self) -> Option<i128> {
-        let deadline = self.form.agenda.deadline()?;
+        let deadline = self.form.deadline()?;
         Some(deadline as i128 - self.clock.offset())
     }
 

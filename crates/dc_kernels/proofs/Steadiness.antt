@@ -23,14 +23,14 @@ use Rattle.dc_block_sound.specs.SoundControls.{IsSoundControl, Suits}
 use Rattle.dc_block_sound.proofs.ControlSound.{firing_sound, latching_sound, slice_sound, waking_sound}
 use Rattle.dc_kcb.specs.Readings.{disp_at}
 use Rattle.dc_kernel.specs.declared.drivers.Forward.{Forward}
-use Rattle.dc_kernel.specs.declared.drivers.Sliced.{Sliced}
-use Rattle.dc_kernel.specs.declared.outsides.Outside.{Outside}
+use Rattle.dc_calls.specs.declared.sliced.Sliced.{Sliced}
+use Rattle.dc_calls.specs.declared.outsides.Outside.{Outside}
 use Rattle.dc_kernel.specs.Done.{Done, done_by, done_picked, done, told}
 use Rattle.dc_kernel.specs.Forwards.{fired, picked, need_in, IsQuantum, IsForward, IsSomeForward}
-use Rattle.dc_kernel.specs.Outsides.{outside_seen, Fits}
+use Rattle.dc_calls.specs.Outsides.{outside_seen, Fits}
 use Rattle.dc_kcb.specs.Wholes.{Resting}
 use Rattle.dc_kernel.specs.Running.{Running, time_in, IsTimely, adopted}
-use Rattle.dc_kernel.specs.Slices.{OffersWithin}
+use Rattle.dc_calls.specs.Slices.{OffersWithin}
 use Rattle.dc_kernel.proofs.Going.{suits}
 use Rattle.dc_kernels.specs.Steady.{IsSteady}
 use Rattle.dc_kernels.proofs.Conditions.{timely}

@@ -11,8 +11,9 @@ use dc_base::dispatchers::{DispState, Wait};
 use dc_base::interrupts::{Latch, Latched};
 use dc_base::kernels::Version;
 use dc_base::numbers::{DispNo, SignalNo};
+use dc_calls::Sliced;
 use dc_kcb::Kcb;
-use dc_kernel::{Driver, Sliced};
+use dc_kernel::Driver;
 use std::marker::Model;
 use std::process::Abort;
 

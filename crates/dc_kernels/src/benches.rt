@@ -3,8 +3,9 @@
 use crate::adopted::Adopted;
 use crate::worlds::World;
 use dc_base::kernels::Version;
+use dc_calls::Sliced;
 use dc_kcb::Kcb;
-use dc_kernel::{Driver, Sliced};
+use dc_kernel::Driver;
 use std::process::Abort;
 
 /// A block at rest, the core's clock, and what is outside the block.

@@ -5,14 +5,15 @@ ghost use Rattle.dc_base.specs.Words.{Each};
 ghost use Rattle.dc_block_sound.specs.SoundControls.{IsSoundControl};
 ghost use Rattle.dc_kernel.specs.Running.{IsTimely};
 ghost use Rattle.dc_kernel.specs.Forwards.{IsSomeForward};
-ghost use Rattle.dc_kernel.specs.Outsides.{Fits, HasRoom};
-ghost use Rattle.dc_kernel.specs.Slices.{OffersWithin};
+ghost use Rattle.dc_calls.specs.Outsides.{Fits, HasRoom};
+ghost use Rattle.dc_calls.specs.Slices.{OffersWithin};
 
 use dc_base::calls::Need;
 use dc_base::messages::Message;
 use dc_base::numbers::{BlockNo, ChanNo, CoreNo};
+use dc_calls::{Outside, Sliced};
 use dc_channel::{Channel, Console};
-use dc_kernel::{Driver, Forward, Outside, Sliced};
+use dc_kernel::{Driver, Forward};
 use dc_lines::Line;
 use std::alloc::Global;
 use std::process::Abort;

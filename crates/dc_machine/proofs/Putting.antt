@@ -13,9 +13,9 @@ use Rattle.dc_base.specs.Lines.{Wire}
 use Rattle.dc_base.specs.Serving.{nothing_outside, console_outside, channel_outside, line_outside}
 use Rattle.dc_base.specs.States.{State}
 use Rattle.dc_base.specs.NeededLooks.{as_line, outside_change}
-use Rattle.dc_kernel.specs.declared.outsides.Outside.{Outside}
-use Rattle.dc_kernel.specs.declared.outsides.Outside.TheVariants as held
-use Rattle.dc_kernel.specs.Outsides.{outside_seen, Fits}
+use Rattle.dc_calls.specs.declared.outsides.Outside.{Outside}
+use Rattle.dc_calls.specs.declared.outsides.Outside.TheVariants as held
+use Rattle.dc_calls.specs.Outsides.{outside_seen, Fits}
 use Rattle.dc_kernel.specs.Turned.{look_in}
 use Rattle.dc_objects.specs.declared.whole.Objects.{Objects}
 use Rattle.dc_machine.specs.Lifts.{AreOutside, IsLifted, LacksLine, LacksLineIf, SameKind}

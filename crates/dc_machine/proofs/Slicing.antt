@@ -28,12 +28,12 @@ use Rattle.dc_base.specs.SliceTurns.{core_after_slice, slice_turn}
 use Rattle.dc_base.specs.Turns.{did, outcome}
 use Rattle.dc_base.specs.Words.{bind}
 use Rattle.dc_kernel.specs.declared.drivers.Forward.{Forward}
-use Rattle.dc_kernel.specs.declared.drivers.Sliced.{Sliced}
-use Rattle.dc_kernel.specs.declared.outsides.Outside.{Outside as Held}
-use Rattle.dc_kernel.specs.declared.outsides.Outside.TheVariants as held
+use Rattle.dc_calls.specs.declared.sliced.Sliced.{Sliced}
+use Rattle.dc_calls.specs.declared.outsides.Outside.{Outside as Held}
+use Rattle.dc_calls.specs.declared.outsides.Outside.TheVariants as held
 use Rattle.dc_kernel.specs.Done.{Done, done, done_by, done_picked, done_empty, told}
 use Rattle.dc_kernel.specs.Forwards.{IsForward, fired, picked, halfway_in, need_in, number_of}
-use Rattle.dc_kernel.specs.Outsides.{outside_seen, HasRoom}
+use Rattle.dc_calls.specs.Outsides.{outside_seen, HasRoom}
 use Rattle.dc_kernel.specs.Running.{Running, on_core, time_in}
 use Rattle.dc_kernel.specs.Turned.{look_in, look_here, outcome_by, done_outcome}
 use Rattle.dc_kernel.proofs.SliceTurns.{slice_done}

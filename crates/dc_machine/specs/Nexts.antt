@@ -11,7 +11,7 @@ use Rattle.dc_base.specs.Steps.{is_runnable}
 use Rattle.dc_base.specs.IdleTurns.{next_due}
 use Rattle.dc_base.specs.Turns.{Looked}
 use Rattle.dc_base.specs.Words.{lesser}
-use Rattle.dc_kernel.specs.declared.drivers.Sliced.{Sliced}
+use Rattle.dc_calls.specs.declared.sliced.Sliced.{Sliced}
 use Rattle.dc_kernel.specs.Forwards.{IsForward}
 use Rattle.dc_objects.specs.Blocks.{running_of}
 use Rattle.dc_machine.specs.declared.steps.Next.{Next}

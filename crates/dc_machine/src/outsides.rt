@@ -4,7 +4,7 @@ ghost use Rattle.std.specs.Prelude.{◌≡◌};
 ghost use Rattle.dc_base.specs.Changes.{apply};
 ghost use Rattle.dc_base.specs.States.{State};
 ghost use Rattle.dc_base.specs.NeededLooks.{outside_change};
-ghost use Rattle.dc_kernel.specs.Outsides.{Fits, outside_seen};
+ghost use Rattle.dc_calls.specs.Outsides.{Fits, outside_seen};
 ghost use Rattle.dc_kernel.specs.Turned.{look_in};
 ghost use Rattle.dc_objects.specs.States.{state_of};
 ghost use Rattle.dc_machine.specs.Lifts.{AreOutside, HasNeeded, IsLifted, KeepsRest, SameKind};
@@ -12,7 +12,8 @@ ghost use Rattle.dc_machine.specs.Lifts.{AreOutside, HasNeeded, IsLifted, KeepsR
 use crate::slots::{lift, put_down};
 use dc_base::calls::Need;
 use dc_base::numbers::BlockNo;
-use dc_kernel::{Driver, Outside};
+use dc_calls::Outside;
+use dc_kernel::Driver;
 use dc_objects::Objects;
 
 /// Lifts the object out that a call of block `b` needs; nothing where none is needed, and for a line that there is not.

@@ -15,7 +15,7 @@ ghost use Rattle.dc_base.specs.SliceTurns.{slice_turn};
 ghost use Rattle.dc_base.specs.Turns.{Looked, did, outcome};
 ghost use Rattle.dc_base.specs.Words.{above_zero};
 ghost use Rattle.dc_kernel.specs.Forwards.{IsForward, IsQuantum};
-ghost use Rattle.dc_kernel.specs.Outsides.{Fits, HasRoom, outside_seen};
+ghost use Rattle.dc_calls.specs.Outsides.{Fits, HasRoom, outside_seen};
 ghost use Rattle.dc_objects.specs.Blocks.{running_of};
 ghost use Rattle.dc_objects.specs.States.{state_of};
 ghost use Rattle.dc_machine.specs.Answers.{Answers, IsQuiet};
@@ -29,7 +29,8 @@ use crate::turns::Stepped;
 use dc_base::actions::Actor;
 use dc_base::entries::{Entry, Reason, What};
 use dc_base::numbers::{BlockNo, CoreNo};
-use dc_kernel::{Driver, Forward, Outside, Sliced};
+use dc_calls::{Outside, Sliced};
+use dc_kernel::{Driver, Forward};
 use dc_objects::{BlockState, CoreState, Objects};
 
 /// What a core does next: nothing, idle until its clock stands so, or a slice of a block.

@@ -11,13 +11,14 @@ ghost use Rattle.dc_base.specs.declared.interrupts.Timer.{Timer as Armed};
 ghost use Rattle.std.specs.Prelude.{pos, ◌-ℤ◌};
 ghost use Rattle.dc_kernel.specs.Done.{done, told};
 ghost use Rattle.dc_kernel.specs.Forwards.{IsQuantum, IsForward, IsSomeForward};
-ghost use Rattle.dc_kernel.specs.Outsides.{outside_seen, HasRoom, Fits};
+ghost use Rattle.dc_calls.specs.Outsides.{outside_seen, HasRoom, Fits};
 ghost use Rattle.dc_objects.specs.Blocks.{running_of, IsHeld, IsTimed, CanSlice};
 
 use dc_base::interrupts::{Latch, Latched};
 use dc_base::numbers::{BlockNo, CoreNo, DispNo, SignalNo};
+use dc_calls::{Outside, Sliced};
 use dc_kcb::Kcb;
-use dc_kernel::{Driver, Forward, Outside, Sliced};
+use dc_kernel::{Driver, Forward};
 use std::marker::Model;
 
 /// At rest, or under a kernel on a core.

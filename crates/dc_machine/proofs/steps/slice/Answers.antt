@@ -5,7 +5,7 @@ use Rattle.std.specs.Prelude.{slice_set, ◌^◌}
 use Rattle.dc_base.specs.Outcomes.{has}
 use Rattle.dc_base.specs.States.{State, Core, Block}
 use Rattle.dc_kernel.specs.Forwards.{IsForward, IsQuantum}
-use Rattle.dc_kernel.specs.Outsides.{outside_seen}
+use Rattle.dc_calls.specs.Outsides.{outside_seen}
 use Rattle.dc_objects.specs.Blocks.{running_of}
 use Rattle.dc_objects.specs.States.{state_of}
 use Rattle.dc_machine.specs.Held.{IsSlice}

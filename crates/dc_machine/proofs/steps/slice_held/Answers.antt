@@ -2,7 +2,7 @@
 use Rattle.std.proofs.Common.{◌≡◌, ◌+◌, ℕ, refl, sym, ap, ◌∙◌, subst, arith}
 use Rattle.dc_base.specs.States.{Core}
 use Rattle.dc_base.specs.SliceTurns.{core_after_slice}
-use Rattle.dc_kernel.specs.Outsides.{outside_seen}
+use Rattle.dc_calls.specs.Outsides.{outside_seen}
 use Rattle.dc_objects.specs.Blocks.{IsTimed}
 use Rattle.dc_machine.proofs.Slicing.{forward_same, did_at, entry_at, held_slice}
 use Rattle.dc_machine.proofs.steps.slice_held.Goals as goal

@@ -8,10 +8,10 @@ use Rattle.dc_base.specs.Words.{Each}
 use Rattle.dc_block_sound.specs.SoundControls.{IsSoundControl}
 use Rattle.dc_kernel.specs.Done.{done_empty, done, told}
 use Rattle.dc_kernel.specs.Forwards.{number_of, IsForward}
-use Rattle.dc_kernel.specs.Outsides.{outside_seen, Fits}
+use Rattle.dc_calls.specs.Outsides.{outside_seen, Fits}
 use Rattle.dc_kernel.specs.Running.{Running}
-use Rattle.dc_kernel.specs.Serves.{IsRunning}
-use Rattle.dc_kernel.specs.Slices.{after_plain, half_of, sliced_seen}
+use Rattle.dc_calls.specs.Serves.{IsRunning}
+use Rattle.dc_calls.specs.Slices.{after_plain, half_of, sliced_seen}
 use Rattle.dc_kernel.proofs.FiredParts.{fired_alike}
 use Rattle.dc_kernel.proofs.Going.{going, half, ran, running, need_is, done_going, nothing_needed, done_nothing, has_ahead, suits, nothing_fits}
 use Rattle.dc_kernel.proofs.kernels.KernelDriver.slice.Goals as goal
