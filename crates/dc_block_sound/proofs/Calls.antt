@@ -3,6 +3,7 @@ use Rattle.std.proofs.Common.{◌≡◌, ℕ, zero, suc, ◌+◌, ◌*◌, ◌/�
 use Rattle.std.specs.Prelude.{slice_get, nat_lt, nat_le, ◌==◌, ◌&&◌, ◌||◌, not, if◌then◌else◌}
 use Rattle.std.proofs.lemmas.Bool.Decides.{nat_tests}
 use Rattle.std.proofs.lemmas.Option.{slice_get_within}
+use Rattle.std.proofs.lemmas.Bool.{or_parts}
 use Rattle.dc_base.specs.declared.capabilities.Cap.{Cap}
 use Rattle.dc_base.specs.declared.capabilities.CapKind.{CapKind}
 use Rattle.dc_base.specs.declared.capabilities.CapKind.TheVariants as kind
@@ -28,10 +29,6 @@ le_false a b h = grind (arith, nat_tests)
 
 pub lt_false : (a b : ℕ) → nat_le a b ≡ false → b < a
 lt_false a b h = grind (arith, nat_tests)
-
-pub or_none : (t u : Bool) → (t || u) ≡ false → (t ≡ false) × (u ≡ false)
-or_none true u h = absurd cc
-or_none false u h = (refl, h)
 
 pub not_false : (t : Bool) → not t ≡ false → t ≡ true
 not_false true h = refl
@@ -132,7 +129,7 @@ module _ (s : State) (d : ℕ) (C : ℕ → Type 0) (x : ControlBlock) (code : L
   with_end_fits is_end er fr imm i j k (Some e) None p q f = (omega arith, omega arith)
   with_end_fits is_end er fr imm i j k (Some e) (Some g) p q f =
       faults_if (not (is_end e.kind) || not (is_frame g.kind)) 6 _ (omega arith) (omega arith) (λ t.
-      let kinds = or_none (not (is_end e.kind)) (not (is_frame g.kind)) t in
+      let kinds = or_parts (not (is_end e.kind)) (not (is_frame g.kind)) t in
       faults_if (lacks er (Some e) || lacks fr (Some g)) 7 _ (omega arith) (omega arith) (λ u.
       faults_if (nat_lt (range_length g.kind) (imm + 4)) 8 k (omega arith) (omega arith) (λ v.
       f e refl p (not_false _ kinds.0) (holds_frame j imm g q (not_false _ kinds.1) (le_false _ _ v)))))
@@ -185,7 +182,7 @@ module _ (s : State) (d : ℕ) (C : ℕ → Type 0) (x : ControlBlock) (code : L
       faults_if (not (is_ram e.kind)) 6 _ (omega arith) (omega arith) (λ r.
       faults_if (lacks write_right (Some e)) 7 _ (omega arith) (omega arith) (λ u.
       faults_if (size == 0 || nat_lt (range_length e.kind) (offset + size)) 8 _ (omega arith) (omega arith) (λ v.
-      let v2 = or_none (size == 0) (nat_lt (range_length e.kind) (offset + size)) v in
+      let v2 = or_parts (size == 0) (nat_lt (range_length e.kind) (offset + size)) v in
       faults_if (has_child_within x.parts.caps from (first_word e.kind + offset) size) 9 _ (omega arith) (omega arith) (λ w.
       last s d C x (with_parts x next) _ moved (retyped (with_parts x next) from (slot_number d b) into_frame (first_word e.kind) (range_length e.kind) offset size e p (ram_is e.kind (not_false _ r)) (some_size size v2.0) (le_false _ _ v2.1) t (own_slot b h)))))))
     where
@@ -206,7 +203,7 @@ module _ (s : State) (d : ℕ) (C : ℕ → Type 0) (x : ControlBlock) (code : L
   bind_fits j (Some e) None q = (omega arith, omega arith)
   bind_fits j (Some e) (Some g) q =
       faults_if (not (is_line e.kind) || not (is_signal g.kind)) 6 _ (omega arith) (omega arith) (λ t.
-      let kinds = or_none (not (is_line e.kind)) (not (is_signal g.kind)) t in
+      let kinds = or_parts (not (is_line e.kind)) (not (is_signal g.kind)) t in
       faults_if (lacks write_right (Some e) || lacks write_right (Some g)) 7 _ (omega arith) (omega arith) (λ u.
       ((j, g, q, signal_is g.kind (not_false _ kinds.1)), moved)))
 
@@ -215,7 +212,7 @@ module _ (s : State) (d : ℕ) (C : ℕ → Type 0) (x : ControlBlock) (code : L
   give_fits i j (Some e) None p q = (omega arith, omega arith)
   give_fits i j (Some e) (Some g) p q =
       faults_if (not (is_send_end e.kind) || not (is_line g.kind)) 6 _ (omega arith) (omega arith) (λ t.
-      let kinds = or_none (not (is_send_end e.kind)) (not (is_line g.kind)) t in
+      let kinds = or_parts (not (is_send_end e.kind)) (not (is_line g.kind)) t in
       faults_if (lacks write_right (Some e) || lacks grant_right (Some g)) 7 _ (omega arith) (omega arith) (λ u. (
         (i, e, p, send_end_is e.kind (not_false _ kinds.0)),
         record { slot = j; cap = g; cap_there = q; kind_is = line_is g.kind (not_false _ kinds.1); rights_are = refl; caps_are = refl },

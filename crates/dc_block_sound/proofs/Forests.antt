@@ -6,8 +6,8 @@ use Rattle.dc_base.specs.Words.{Each, is_number, count_of}
 use Rattle.dc_base.specs.Capabilities.{Seat, seat_at, is_used, parent_in, parent_at, with_seat, reaches_in, reaches, after_revoke, with_parent, after_delete, slots_of_line, without_line}
 use Rattle.dc_base.specs.KeptByBlocks.{Falls}
 use Rattle.dc_block_sound.proofs.Elements.{same_is, is_same, not_same, other_is}
-use Rattle.dc_block_sound.proofs.Ascending.{was_there, each_filter, Ascends, ascends_filter, ascends_map}
-use Rattle.dc_block_sound.proofs.Calls.{or_none}
+use Rattle.dc_base.proofs.Ascending.{was_there, each_filter, Ascends, ascends_filter, ascends_map}
+use Rattle.std.proofs.lemmas.Bool.{or_parts}
 use Rattle.dc_block_sound.proofs.Seats.{in_filter, in_map, map_there, IsSeat, used_seat, there_used, seat_found, each_put, still_used, ascends_put}
 
 abbrev pub seat_slot : Seat → ℕ
@@ -190,7 +190,7 @@ module _ (s : ℕ) (caps : List Seat) (f : IsForest caps) where
       let l = below_some rank (rank p) caps g i.place i.there (omega (arith, r)) in
       let u : is_used caps p ≡ true = ap is_some i.found in
       let more = enough (length caps) (Some p) u (omega (arith, l)) in
-      let both = or_none (p == s) (reaches_in (length caps) caps s (parent_at caps p)) (more ∙ c) in
+      let both = or_parts (p == s) (reaches_in (length caps) caps s (parent_at caps p)) (more ∙ c) in
       ap (reaches_in (length caps) caps s) (sym (parent_of p g i)) ∙ both.1
 
   stays_used : (o : Option ℕ) → IfSome o (λ p. is_used caps p ≡ true) → reaches_in (length caps) caps s o ≡ false → IfSome o (λ p. is_used (after_revoke s caps) p ≡ true)

@@ -3,6 +3,7 @@ use Rattle.std.proofs.Common.{◌≡◌, ℕ, zero, suc, List, [], ◌∷◌, Bo
 use Rattle.std.specs.Prelude.{slice_get, ◌==◌, ◌||◌, not, filter, fold}
 use Rattle.std.specs.List.{list_any}
 use Rattle.std.proofs.lemmas.Bool.Decides.{nat_tests}
+use Rattle.std.proofs.lemmas.Bool.{or_right}
 use Rattle.dc_base.specs.declared.capabilities.Cap.{Cap}
 use Rattle.dc_base.specs.declared.capabilities.CapKind.TheVariants as kind
 use Rattle.dc_base.specs.ControlBlocks.{ControlBlock}
@@ -10,7 +11,7 @@ use Rattle.dc_base.specs.Capabilities.{Seat, after_delete, slots_of_line, withou
 use Rattle.dc_base.specs.Kernel.{with_mask, memory_cap}
 use Rattle.dc_base.specs.KeptOutside.{has_cap_of_line}
 use Rattle.dc_base.specs.States.{State}
-use Rattle.dc_block_sound.proofs.Ascending.{was_there}
+use Rattle.dc_base.proofs.Ascending.{was_there}
 use Rattle.dc_block_sound.proofs.CapForms.{each_deleted, each_revoked, each_given, each_fold}
 use Rattle.dc_block_sound.proofs.ControlSteps.{Step, copied, retyped, deleted, revoked, given, claimed, Steps, kept_by}
 use Rattle.dc_block_sound.proofs.Elements.{is_same}
@@ -27,10 +28,6 @@ any_by p x xs more false q h = let w = more h in (suc w.0, w.1, w.2, w.3)
 pub any_there : {A : Type 0} (p : A → Bool) (xs : List A) → list_any p xs ≡ true → (i : ℕ) × (a : A) × (slice_get xs i ≡ Some a) × (p a ≡ true)
 any_there p [] h = absurd cc
 any_there p (x ∷ xs) h = any_by p x xs (λ k. any_there p xs k) (p x) refl h
-
-or_right : (t u : Bool) → u ≡ true → (t || u) ≡ true
-or_right true u h = refl
-or_right false u h = h
 
 pub there_any : {A : Type 0} (p : A → Bool) (xs : List A) (a : A) (i : ℕ) → slice_get xs i ≡ Some a → p a ≡ true → list_any p xs ≡ true
 there_any p [] a i e h = absurd cc

@@ -3,6 +3,7 @@ use Rattle.std.proofs.Common.{◌≡◌, ℕ, zero, suc, ◌+◌, ◌<◌, ◌�
 use Rattle.std.specs.Prelude.{slice_get, ◌==◌, ◌||◌, if◌then◌else◌, replicate}
 use Rattle.std.specs.Option.{option_map}
 use Rattle.std.proofs.lemmas.List.Sums.{sum_by-cons}
+use Rattle.std.proofs.lemmas.Bool.{or_right}
 use Rattle.dc_base.specs.declared.images.BlockImage.{BlockImage}
 use Rattle.dc_base.specs.declared.images.CoreImage.{CoreImage}
 use Rattle.dc_base.specs.declared.numbers.CoreNo.{CoreNo}
@@ -83,10 +84,6 @@ home_by c n b blocks j more false q h = home_later c n b blocks j (more h)
 pub home_there : (c n : ℕ) (blocks : List BlockImage) (j : ℕ) → has (home_members_from c n blocks) j ≡ true → IsHomeAt c n blocks j
 home_there c n [] j h = absurd cc
 home_there c n (b ∷ blocks) j h = home_by c n b blocks j (λ k. home_there c (n + 1) blocks j k) (is_home_of c b) refl h
-
-or_right : (t u : Bool) → u ≡ true → (t || u) ≡ true
-or_right true u h = refl
-or_right false u h = h
 
 pub there_home : (c n : ℕ) (blocks : List BlockImage) (i : ℕ) (b : BlockImage) → slice_get blocks i ≡ Some b → is_home_of c b ≡ true → has (home_members_from c n blocks) (n + i) ≡ true
 there_home c n [] i b e h = absurd cc

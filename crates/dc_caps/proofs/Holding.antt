@@ -6,8 +6,9 @@ use Rattle.std.proofs.lemmas.List.{take_more, append-nil}
 use Rattle.std.proofs.lemmas.List.Elements.{filter-append}
 use Rattle.std.proofs.lemmas.List.Sums.{fold-append}
 use Rattle.std.proofs.lemmas.Option.{slice_get-get_or}
-use Rattle.dc_mdb.proofs.Ascending.{map_there}
+use Rattle.dc_mdb.proofs.Elements.{map_there}
 use Rattle.std.proofs.lemmas.Bool.Decides.{nat_tests}
+use Rattle.std.proofs.lemmas.Bool.{or_right}
 use Rattle.dc_base.specs.declared.capabilities.Cap.{Cap}
 use Rattle.dc_base.specs.Words.{Each, is_number}
 use Rattle.dc_base.proofs.EachLaws.{each_first, each_rest}
@@ -44,10 +45,6 @@ module _ (caps : List Cap) where
   none_any : (p : Seat → Bool) (ns : List Node) → Each ns (λ i n. p (seat_of caps n) ≡ false) → list_any p (seats_of caps ns) ≡ false
   none_any p [] h = refl
   none_any p (n ∷ ns) h = ap (λ t. t || list_any p (seats_of caps ns)) (each_first (λ i n. p (seat_of caps n) ≡ false) n ns h) ∙ none_any p ns (each_rest (λ i n. p (seat_of caps n) ≡ false) n ns h)
-
-  or_right : (t u : Bool) → u ≡ true → (t || u) ≡ true
-  or_right true u h = refl
-  or_right false u h = h
 
   some_any : (p : Seat → Bool) (ns : List Node) (n : Node) (i : ℕ) → slice_get ns i ≡ Some n → p (seat_of caps n) ≡ true → list_any p (seats_of caps ns) ≡ true
   some_any p [] n i e h = absurd cc

@@ -3,6 +3,7 @@ use Rattle.std.proofs.Common.{◌≡◌, ℕ, zero, suc, ◌<◌, Bool, true, fa
 use Rattle.std.specs.Prelude.{slice_get, ⊤, ◌||◌}
 use Rattle.std.specs.List.{list_any}
 use Rattle.std.proofs.lemmas.Bool.{cases_lt, false≢true}
+use Rattle.std.proofs.Math.Bool.{or-true}
 use mathlib.Core.List.{append_assoc}
 use Rattle.toml.specs.Data.{Items, no_items, item}
 use Rattle.dc_base.specs.Words.{Each}
@@ -57,11 +58,7 @@ is_built P count all r = subst (IsBuilt P) (sym r.all_is) (built_at P [] r.added
 any_at : {A : Type 0} (q : A → Bool) (xs : List A) (i : ℕ) (x : A) → slice_get xs i ≡ Some x → q x ≡ true → list_any q xs ≡ true
 any_at q [] i x e h = cc
 any_at q (y ∷ xs) zero x e h = let same : x ≡ y = cc in let first : q y ≡ true = ap q (sym same) ∙ h in rw first
-any_at q (y ∷ xs) (suc i) x e h = let more : list_any q xs ≡ true = any_at q xs i x e h in rw more (or_true (q y))
-  where
-    or_true : (b : Bool) → (b || true) ≡ true
-    or_true true = refl
-    or_true false = refl
+any_at q (y ∷ xs) (suc i) x e h = let more : list_any q xs ≡ true = any_at q xs i x e h in rw more (or-true (q y))
 
 get-take : {A : Type 0} (xs : List A) (i n : ℕ) → i < n → slice_get (take n xs) i ≡ slice_get xs i
 get-take xs i zero h = absurd (omega arith)

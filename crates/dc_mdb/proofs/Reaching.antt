@@ -1,8 +1,9 @@
 -- More steps reach no more than there are slots, and what is left after all that reach a slot go.
 use Rattle.std.proofs.Common.{◌≡◌, ℕ, zero, suc, ◌+◌, ◌-◌, ◌<◌, ◌≤◌, List, [], ◌∷◌, Bool, true, false, Option, Some, None, refl, sym, ap, ◌∙◌, subst, arith, length}
 use Rattle.std.specs.Prelude.{◌==◌, ◌||◌, not, if◌then◌else◌, filter, IfSome, is_some}
+use Rattle.std.proofs.lemmas.Bool.{or_parts}
 use Rattle.dc_mdb.specs.Forests.{Node, node_at, has_slot, parent_in, parent_at, reaches_in, reaches, without_descendants}
-use Rattle.dc_mdb.proofs.Ascending.{was_there, each_filter}
+use Rattle.dc_base.proofs.Ascending.{was_there, each_filter}
 use Rattle.dc_mdb.proofs.Nodes.{IsNode, used_node}
 use Rattle.dc_mdb.proofs.Ranks.{below, below_less, below_some}
 use Rattle.dc_mdb.proofs.Rooted.{IsRooted}
@@ -19,10 +20,6 @@ found_by keep p x xs h k more false q e false r = more e
 found_kept : (keep : Node → Bool) (p : ℕ) (xs : List Node) (h : Node) → keep h ≡ true → node_at xs p ≡ Some h → node_at (filter keep xs) p ≡ Some h
 found_kept keep p [] h k e = absurd cc
 found_kept keep p (x ∷ xs) h k e = found_by keep p x xs h k (λ g. found_kept keep p xs h k g) (x.0 == p) refl e (keep x) refl
-
-or_none : (t u : Bool) → (t || u) ≡ false → (t ≡ false) × (u ≡ false)
-or_none true u h = absurd cc
-or_none false u h = (refl, h)
 
 -- more steps reach no more, where there are as many steps as ranks below
 module _ (s : ℕ) (nodes : List Node) (f : IsRooted nodes) where
@@ -83,7 +80,7 @@ module _ (s : ℕ) (nodes : List Node) (f : IsRooted nodes) where
       let l = below_some rank (rank p) nodes g i.place i.there (omega (arith, r)) in
       let u : has_slot nodes p ≡ true = ap is_some i.found in
       let more = enough (length nodes) (Some p) u (omega (arith, l)) in
-      let both = or_none (p == s) (reaches_in (length nodes) nodes s (parent_at nodes p)) (more ∙ c) in
+      let both = or_parts (p == s) (reaches_in (length nodes) nodes s (parent_at nodes p)) (more ∙ c) in
       ap (reaches_in (length nodes) nodes s) (sym (parent_of p g i)) ∙ both.1
 
   stays_used : (o : Option ℕ) → IfSome o (λ p. has_slot nodes p ≡ true) → reaches_in (length nodes) nodes s o ≡ false → IfSome o (λ p. has_slot (without_descendants s nodes) p ≡ true)

@@ -7,6 +7,7 @@ use Rattle.std.proofs.lemmas.Option.{slice_get-map}
 use Rattle.std.proofs.lemmas.Bool.Decides.{nat_tests}
 use Rattle.std.proofs.lemmas.List.Folds.{list_any-append}
 use Rattle.std.proofs.lemmas.List.Sums.{length-filter}
+use Rattle.std.proofs.lemmas.Bool.{or_right}
 use Rattle.dc_base.specs.declared.dispatchers.DispState.{DispState}
 use Rattle.dc_base.specs.declared.dispatchers.DispState.TheVariants as disp
 use Rattle.dc_base.specs.declared.dispatchers.Wait.{Wait}
@@ -91,10 +92,6 @@ fire_ready t x h = wake_ready (wait.Signal (record { 0 = t.signal.0 }))
     (record x { parts = record x.parts { timers = without_timer t x.parts.timers; signals = signals_after t.signal.0 (record { source = source.Timer; value = t.value }) x.parts.signals } }) h
 
 -- one timer fewer
-or_later : (t u : Bool) → u ≡ true → (t || u) ≡ true
-or_later true u g = refl
-or_later false u g = g
-
 abbrev NumberListed : Timer → List Timer → Type 0
 NumberListed t ts = list_any (λ (u : Timer). u.number == t.number) ts ≡ true
 
@@ -102,7 +99,7 @@ first_number : (u t : Timer) (us : List Timer) → u ≡ t → NumberListed t (u
 first_number u t us e = let k : u.number ≡ t.number = ap (λ (v : Timer). v.number) e in let f : (u.number == t.number) ≡ true = grind (arith, nat_tests, k) in ap (λ v. v || list_any (λ (v : Timer). v.number == t.number) us) f
 
 soonest_test : (u t w : Timer) (us : List Timer) → (w ≡ t → NumberListed t us) → (v : Bool) → (if v then w else u) ≡ t → NumberListed t (u ∷ us)
-soonest_test u t w us more true g = or_later (u.number == t.number) (list_any (λ (v : Timer). v.number == t.number) us) (more g)
+soonest_test u t w us more true g = or_right (u.number == t.number) (list_any (λ (v : Timer). v.number == t.number) us) (more g)
 soonest_test u t w us more false g = first_number u t us g
 
 soonest_by : (u t : Timer) (us : List Timer) → (soonest us ≡ Some t → NumberListed t us) → (o : Option Timer) → soonest us ≡ o → Some (sooner u o) ≡ Some t → NumberListed t (u ∷ us)
@@ -177,7 +174,7 @@ first_listed : (e d : ℕ) (es : List ℕ) → e ≡ d → list_any (λ f. f == 
 first_listed e d es k = let f : (e == d) ≡ true = grind (arith, nat_tests, k) in ap (λ v. v || list_any (λ f. f == d) es) f
 
 earliest_test : (e d w : ℕ) (es : List ℕ) → (w ≡ d → list_any (λ f. f == d) es ≡ true) → (v : Bool) → (if v then w else e) ≡ d → list_any (λ f. f == d) (e ∷ es) ≡ true
-earliest_test e d w es more true g = or_later (e == d) (list_any (λ f. f == d) es) (more g)
+earliest_test e d w es more true g = or_right (e == d) (list_any (λ f. f == d) es) (more g)
 earliest_test e d w es more false g = first_listed e d es g
 
 earliest_by : (dues : List ℕ) (e d : ℕ) (es : List ℕ) → (earliest dues es ≡ Some d → list_any (λ f. f == d) es ≡ true) → (o : Option ℕ) → earliest dues es ≡ o → Some (earlier dues e o) ≡ Some d → list_any (λ f. f == d) (e ∷ es) ≡ true

@@ -5,6 +5,7 @@ use Rattle.std.specs.List.{flat_map}
 use Rattle.std.specs.Option.{option_map_or}
 use Rattle.std.proofs.lemmas.Int.{ints}
 use Rattle.std.proofs.lemmas.Bool.Decides.{nat_tests}
+use Rattle.std.proofs.lemmas.Bool.{or_parts}
 use Rattle.dc_base.specs.declared.interrupts.Timer.{Timer}
 use Rattle.dc_base.specs.Words.{least, above_zero}
 use Rattle.dc_base.specs.Timers.{due_timer, is_due, soonest, sooner, if_due}
@@ -74,10 +75,6 @@ due_at_by clock deadline z (negsuc m) e h later = absurd (omega (arith, ints, h)
 due_at : (clock deadline : ℕ) (z : ℤ) → pos 0 ≤ℤ (pos clock +ℤ z) → time_on clock z < deadline → above_zero (pos deadline -ℤ z) ≡ clock + (deadline - time_on clock z)
 due_at clock deadline z h later = due_at_by clock deadline z (pos clock +ℤ z) refl h later
 
-or_false : (a b : Bool) → (a || b) ≡ false → b ≡ false
-or_false true b h = cc
-or_false false b h = h
-
 module _ (s : State) (t : Blocks) (placed : IsPlaced s) (in_time : AllInTime s.cores s.blocks) (stands : StandsFor s t) (consoles : (b : ℕ) (x : Block) → slice_get s.blocks b ≡ Some x → (ws : List ℕ) × (slice_get s.consoles b ≡ Some ws))
     (c : ℕ) (k : Core) (core_at : slice_get s.cores c ≡ Some k) (none_runs : find (is_runnable k.clock) (map (looked_at s.blocks) (share_blocks k.share)) ≡ None) where
   clock_is : clock_of s.cores c ≡ k.clock
@@ -100,7 +97,7 @@ module _ (s : State) (t : Blocks) (placed : IsPlaced s) (in_time : AllInTime s.c
         ∙ none_found (is_runnable k.clock) looked (looked_at s.blocks b) none_runs (map_in (looked_at s.blocks) (share_blocks k.share) b listed)
 
     later : (u : Timer) → In u x.control.parts.timers → time_at k.clock x.whereabouts < u.deadline
-    later u g = not_due (time_at k.clock x.whereabouts) x.control.parts.timers u (or_false (nat_lt 0 (length x.control.ready)) (is_due (time_at k.clock x.whereabouts) x.control.parts.timers) cant_run) g
+    later u g = not_due (time_at k.clock x.whereabouts) x.control.parts.timers u (or_parts (nat_lt 0 (length x.control.ready)) (is_due (time_at k.clock x.whereabouts) x.control.parts.timers) cant_run).1 g
 
     clock_by : (w : Whereabouts) → IsOn c w → InTime s.cores w → (deadline : ℕ) → time_at k.clock w < deadline → (u : Timer) → u.deadline ≡ deadline → due_clock w u ≡ k.clock + (deadline - time_at k.clock w)
     clock_by (rest kept) h within deadline after u e = absurd h

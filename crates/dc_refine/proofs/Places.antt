@@ -2,6 +2,7 @@
 use Rattle.std.proofs.Common.{◌≡◌, ℕ, zero, suc, ◌+◌, List, [], ◌∷◌, Bool, true, false, Some, refl, sym, ap, ◌∙◌, subst, map, arith, inl, inr, ◌⊎◌}
 use Rattle.std.specs.Prelude.{slice_get, filter, ◌==◌, ◌||◌, if◌then◌else◌}
 use Rattle.std.proofs.lemmas.Bool.Decides.{nat_tests}
+use Rattle.std.proofs.lemmas.Bool.{or_right}
 use Rattle.dc_base.specs.States.{State, Core, Block, Member, Whereabouts, rest, on}
 use Rattle.dc_base.specs.Outcomes.{has, share_blocks}
 use Rattle.dc_base.specs.Holders.{held_by}
@@ -21,14 +22,10 @@ pub has-in : (share : List Member) (b : ℕ) → has share b ≡ true → In b (
 has-in [] b h = cc
 has-in (m ∷ ms) b h = or_by m.block b (share_blocks ms) (m.block == b) (has ms b) refl (λ g. has-in ms b g) h
 
-or_true : (t u : Bool) → u ≡ true → (t || u) ≡ true
-or_true true u h = refl
-or_true false u h = h
-
 pub in-has : (share : List Member) (b : ℕ) → In b (share_blocks share) → has share b ≡ true
 in-has [] b h = absurd h
 in-has (m ∷ ms) b (inl e) = ap (λ t. t || has ms b) (same_test m.block b (sym e))
-in-has (m ∷ ms) b (inr h) = or_true (m.block == b) (has ms b) (in-has ms b h)
+in-has (m ∷ ms) b (inr h) = or_right (m.block == b) (has ms b) (in-has ms b h)
 
 -- the held blocks
 held_first : (c : ℕ) (w : Whereabouts) (n b : ℕ) (ps : List (ℕ × ℕ)) → IsOn c w → b ≡ n → In b (held_by c (with_holder n w ps))

@@ -3,6 +3,7 @@ use Rattle.std.proofs.Common.{◌≡◌, ℕ, zero, suc, ◌+◌, ◌<◌, ◌�
 use Rattle.std.specs.Prelude.{slice_get, filter, not, ◌==◌, ◌||◌, if◌then◌else◌}
 use Rattle.std.proofs.lemmas.Bool.Decides.{nat_tests}
 use Rattle.std.proofs.lemmas.List.Sums.{length-filter}
+use Rattle.std.proofs.lemmas.Bool.{or_right}
 use Rattle.dc_base.specs.States.{State, Core, Block, Member, Whereabouts, rest, on}
 use Rattle.dc_base.specs.Outcomes.{has, share_without}
 use Rattle.dc_base.specs.Holders.{held_by}
@@ -56,16 +57,12 @@ times_without : (n b : ℕ) (share : List Member) → times_in (share_without n 
 times_without n b [] = omega arith
 times_without n b (m ∷ ms) = times_without_by m n b ms (times_without n b ms) (m.block == n)
 
-or_true : (t u : Bool) → u ≡ true → (t || u) ≡ true
-or_true true u h = refl
-or_true false u h = h
-
 or_keeps : (t u v : Bool) → (u ≡ true → v ≡ true) → (t || u) ≡ true → (t || v) ≡ true
 or_keeps true u v f h = refl
 or_keeps false u v f h = f h
 
 has_without_by : (m : Member) (n b : ℕ) (ms : List Member) → (has (share_without n ms) b ≡ true → has ms b ≡ true) → (t : Bool) → has (if not t then m ∷ share_without n ms else share_without n ms) b ≡ true → has (m ∷ ms) b ≡ true
-has_without_by m n b ms more true h = or_true (m.block == b) (has ms b) (more h)
+has_without_by m n b ms more true h = or_right (m.block == b) (has ms b) (more h)
 has_without_by m n b ms more false h = or_keeps (m.block == b) (has (share_without n ms) b) (has ms b) more h
 
 pub has_without : (n b : ℕ) (share : List Member) → has (share_without n share) b ≡ true → has share b ≡ true

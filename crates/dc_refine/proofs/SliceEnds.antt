@@ -5,6 +5,7 @@ use Rattle.std.specs.Option.{option_map}
 use Rattle.std.proofs.lemmas.List.{map-set, set-set}
 use Rattle.std.proofs.lemmas.Option.{slice_get-map}
 use Rattle.std.proofs.lemmas.Bool.Decides.{nat_tests}
+use Rattle.std.proofs.lemmas.Bool.{or_right}
 use Rattle.dc_base.specs.declared.dispatchers.DispState.{DispState}
 use Rattle.dc_base.specs.declared.dispatchers.DispState.TheVariants as disp
 use Rattle.dc_base.specs.declared.instructions.Instr.{Instr}
@@ -66,10 +67,6 @@ same_number n = search rules
 
 below_test : (n m : ℕ) → n < m → nat_lt n m ≡ true
 below_test n m h = grind (arith, nat_tests)
-
-or_right : (t u : Bool) → u ≡ true → (t || u) ≡ true
-or_right true u h = refl
-or_right false u h = h
 
 max_one : (n : ℕ) → 0 < max n 1
 max_one n = omega arith

@@ -5,6 +5,7 @@ use Rattle.std.specs.Option.{option_map}
 use Rattle.std.proofs.lemmas.List.{map-set, length-map}
 use Rattle.std.proofs.lemmas.Option.{slice_get-map, get_or_from_slice_get}
 use Rattle.std.proofs.lemmas.Bool.Decides.{nat_tests}
+use Rattle.std.proofs.lemmas.Bool.{or_right}
 use Rattle.dc_base.specs.declared.calls.End.{End}
 use Rattle.dc_base.specs.declared.calls.End.TheVariants as end
 use Rattle.dc_base.specs.declared.kernels.Version.{Version}
@@ -50,13 +51,9 @@ pub holders_alike : (xs ys : List Block) → map place_of xs ≡ map place_of ys
 holders_alike xs ys e = holders_are 0 xs ∙ ap (holders_at 0) e ∙ sym (holders_are 0 ys)
 
 -- the core that a block is on holds it
-or_true : (t u : Bool) → u ≡ true → (t || u) ≡ true
-or_true true u h = refl
-or_true false u h = h
-
 holds_further : (w : Whereabouts) (n c b : ℕ) (ps : List (ℕ × ℕ)) → holds ps c b ≡ true → holds (with_holder n w ps) c b ≡ true
 holds_further (rest kept) n c b ps h = h
-holds_further (on d z v) n c b ps h = or_true (n == b && d == c) (holds ps c b) h
+holds_further (on d z v) n c b ps h = or_right (n == b && d == c) (holds ps c b) h
 
 same_test : (n m : ℕ) → n ≡ m → (n == m) ≡ true
 same_test n m e = grind (arith, nat_tests, e)

@@ -1,5 +1,6 @@
 -- The laws of the scene of a machine.
 use Rattle.std.proofs.Common.{◌≡◌, ℕ, ◌==◌, ◌||◌, Bool, true, false, true≢false, List, [], ◌∷◌, Option, Some, None, refl, sym, ap, ◌∙◌, inl, inr, eq-eqb, eqb-true}
+use Rattle.std.proofs.Math.Bool.{or-true}
 use Rattle.dc_base.specs.declared.entries.Entry.{Entry}
 use Rattle.dc_base.specs.States.{State, Settings}
 use Rattle.dc_base.specs.Changes.{Object}
@@ -14,15 +15,11 @@ use Rattle.dc_scene.specs.Machines.{machine, has_sizes, at_sized, IsLawfulIn}
 use Rattle.dc_scene.specs.Sizes.{found_sizes, at_sizes, no_object}
 use Rattle.dc_scene.specs.Actors.{touches_there}
 
-or_true : (b : Bool) → b || true ≡ true
-or_true true = refl
-or_true false = refl
-
 -- what is among the numbers is found there
 among_found : (i : ℕ) (is : List ℕ) → IsAmong i is → has i is ≡ true
 among_found i [] h = absurd h
 among_found i (j ∷ is) (inl e) = ap (λ b. b || has i is) (eq-eqb i j e)
-among_found i (j ∷ is) (inr h) = ap (λ b. (i == j) || b) (among_found i is h) ∙ or_true (i == j)
+among_found i (j ∷ is) (inr h) = ap (λ b. (i == j) || b) (among_found i is h) ∙ or-true (i == j)
 
 found_by : (i j : ℕ) (is : List ℕ) (b : Bool) → (i == j) ≡ b → (has i is ≡ true → IsAmong i is) → b || has i is ≡ true → IsAmong i (j ∷ is)
 found_by i j is true e f h = inl (eqb-true i j e)

@@ -6,6 +6,7 @@ use Rattle.std.proofs.lemmas.Bool.{cases_Bool, ltb-false}
 use Rattle.std.proofs.lemmas.Bool.Decides.{nat_tests}
 use Rattle.std.proofs.lemmas.List.{drop_more}
 use Rattle.std.proofs.lemmas.List.Sums.{sum_by-cons, prefix_len-le-length}
+use Rattle.std.proofs.Math.Bool.{or-true}
 use Rattle.dc_base.specs.States.{Member}
 use Rattle.dc_base.specs.Outcomes.{has, share_blocks}
 
@@ -74,14 +75,10 @@ place_below b xs h = place_within (λ (m : Member). m.block == b) xs h
 same_number : (b : ℕ) → (b == b) ≡ true
 same_number b = grind (arith, nat_tests)
 
-or_true : (t : Bool) → (t || true) ≡ true
-or_true true = refl
-or_true false = refl
-
 pub has_at : (xs : List Member) (i : ℕ) (d : Member) → i < length xs → has xs (get_or xs i d).block ≡ true
 has_at [] i d h = absurd (omega (arith, h))
 has_at (m ∷ ms) zero d h = ap (λ t. t || has ms m.block) (same_number m.block)
-has_at (m ∷ ms) (suc i) d h = ap (λ t. (m.block == (get_or ms i d).block) || t) (has_at ms i d (omega (arith, h))) ∙ or_true (m.block == (get_or ms i d).block)
+has_at (m ∷ ms) (suc i) d h = ap (λ t. (m.block == (get_or ms i d).block) || t) (has_at ms i d (omega (arith, h))) ∙ or-true (m.block == (get_or ms i d).block)
 
 -- the first runnable block from a place on
 first_by : (is_runnable : ℕ → Bool) (b : ℕ) (bs : List ℕ) (t : Bool) → is_runnable b ≡ t → (t ≡ true → find is_runnable (b ∷ bs) ≡ Some b) × (t ≡ false → find is_runnable (b ∷ bs) ≡ find is_runnable bs)

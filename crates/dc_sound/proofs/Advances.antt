@@ -175,10 +175,6 @@ module _ (blocks : List Block) (clock : ℕ) where
   pub next_in : (share : List Member) → next_due (map (looked_at blocks) (share_blocks share)) ≡ Some clock → DueIn blocks share clock
   next_in share h = due_in share (least_in _ clock h)
 
-pub or_false : (t u : Bool) → (t || u) ≡ false → u ≡ false
-or_false true u h = absurd cc
-or_false false u h = h
-
 -- where no block of the share can run
 module _ (blocks : List Block) (clock : ℕ) (b : ℕ) (x : Block) (at : slice_get blocks b ≡ Some x) where
   none_find : (l : Looked) (ls : List Looked) (t : Bool) → (if t then Some l else find (is_runnable clock) ls) ≡ None → (t ≡ false) × (find (is_runnable clock) ls ≡ None)

@@ -3,6 +3,7 @@ use Rattle.std.proofs.Common.{◌≡◌, ℕ, suc, ◌≤◌, ◌<◌, List, [],
 use Rattle.std.proofs.lemmas.Bool.Decides.{nat_tests}
 use Rattle.std.proofs.lemmas.List.Sums.{sum_by-cons}
 use Rattle.std.specs.Prelude.{◌==◌, ◌||◌, not, nat_lt, if◌then◌else◌, ⊤}
+use Rattle.std.proofs.lemmas.Bool.{or_right}
 use Rattle.dc_base.specs.Words.{with_number, without, is_number}
 use Rattle.dc_base.specs.Outcomes.{share_without, has}
 use Rattle.dc_base.specs.Placed.{homes_in, parked_in}
@@ -182,10 +183,6 @@ homes_none (m ∷ ms) h = by_parked (λ k. homes_none ms k) m.parked refl h
     by_parked : (home_block ms ≡ None → homes_in ms ≡ 0) → (t : Bool) → m.parked ≡ t → (if t then home_block ms else Some m.block) ≡ None → homes_in (m ∷ ms) ≡ 0
     by_parked more true q h = let a = sum_by-cons one_home m ms in let o : one_home m ≡ 0 = ap (λ (t : Bool). if not t then 1 else 0) q in let c = more h in omega (arith, a, o, c)
     by_parked more false q h = absurd cc
-
-or_right : (t u : Bool) → u ≡ true → (t || u) ≡ true
-or_right true u h = refl
-or_right false u h = h
 
 -- the home block is in the share
 pub home_in : (share : List Member) (b : ℕ) → home_block share ≡ Some b → has share b ≡ true

@@ -3,6 +3,7 @@ use Rattle.std.proofs.Common.{◌≡◌, ℕ, ◌+◌, ◌*◌, ◌^◌, ◌≤�
 use Rattle.std.proofs.lemmas.Int.{ints}
 use Rattle.std.proofs.lemmas.Bool.Decides.{nat_tests}
 use Rattle.std.specs.Prelude.{slice_get, slice_set, pos, ◌+ℤ◌, ◌-ℤ◌, ◌≤ℤ◌}
+use Rattle.std.proofs.lemmas.Bool.{or_parts}
 use Rattle.dc_base.specs.declared.kernels.Clocks.{Clocks}
 use Rattle.dc_base.specs.declared.kernels.Clocks.TheVariants as clocks
 use Rattle.dc_base.specs.declared.kernels.Version.{Version}
@@ -27,7 +28,7 @@ use Rattle.dc_block_sound.proofs.Elements.{same_some, set_here, SetCase, set_now
 use Rattle.dc_sound.proofs.Placed.{places, frame_obeyed, by_slice, by_slice_none, by_idle, by_wake, by_intake, by_post, by_done, by_refused, by_route, by_awaited, by_raise}
 use Rattle.dc_sound.proofs.CoresAfter.{outside_cores, post_cores, done_cores}
 use Rattle.dc_sound.proofs.Times.{Ticks, tick, no_tick, budget_is, clock_of-at, clocks_bound, OnTime, InTime, same_place}
-use Rattle.dc_sound.proofs.Advances.{half_ran, end_advance, not_due, next_in, none_runs, or_false, idle_clock}
+use Rattle.dc_sound.proofs.Advances.{half_ran, end_advance, not_due, next_in, none_runs, idle_clock}
 
 adopted_by : (how : Clocks) (old clock most : ℕ) → old < most → clock < most → (old ≤ adopted_time how old clock) × (adopted_time how old clock < most)
 adopted_by clocks.Kept old clock most h k = (omega arith, h)
@@ -92,7 +93,7 @@ module _ (s : State) (chs : List Change) (e : Entry) (p : IsClocked s) (deadline
       let d = next_in s.blocks i.clock i.k.share i.due in
       let own = placed.only i.c i.k i.core_at d.b d.here in
       let o : IsOn i.c d.x.whereabouts = subst (λ (u : Block). IsOn i.c u.whereabouts) (same_some (slice_get s.blocks d.b) own.0 d.x own.1 d.block_at) own.2 in
-      let none = or_false _ _ (none_runs s.blocks i.k.clock d.b d.x d.block_at i.k.share d.here i.none_runs) in
+      let none = (or_parts _ _ (none_runs s.blocks i.k.clock d.b d.x d.block_at i.k.share d.here i.none_runs)).1 in
       let far = idle_by i d.b d.x d.due.timer d.block_at o none d.due.i d.due.timer_at d.x.whereabouts refl d.due.is in
       subst (λ cs. Ticks s (apply s cs) 1) (sym i.changes_are) (tick i.c i.k (with_clock i.clock i.k) i.core_at refl refl far.0 far.1)
 

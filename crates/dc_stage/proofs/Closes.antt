@@ -1,6 +1,7 @@
 -- At the close the first pass has seen the whole history, and all objects are at home.
 use Rattle.std.proofs.Common.{◌≡◌, ◌≢◌, ℕ, zero, suc, ◌+◌, ◌<◌, ◌≤◌, ◌==◌, ◌||◌, ◌&&◌, Bool, true, false, List, [], ◌∷◌, ◌++◌, length, sym, refl, ap, ap₂, ◌∙◌, subst, ⊎_elim, arith, append-nil, eq-eqb, ne_eqb, true≢false}
 use Rattle.std.specs.Prelude.{Option, Some}
+use Rattle.std.proofs.Math.Bool.{or-true}
 use mathlib.Core.Option.{some, some-injective}
 use mathlib.Core.Logic.{dite}
 use native.Mathlib.Decide.{ℕ_discrete, dec_le}
@@ -16,7 +17,7 @@ use Rattle.dc_stage.specs.Carried.{known_of}
 use Rattle.dc_stage.specs.Calls.{SeesAll}
 use Rattle.dc_stage.specs.declared.view.Past.{Past}
 use Rattle.dc_stage.specs.declared.view.View.{View}
-use Rattle.dc_stage.proofs.Numbers.{few_below, not_true, has_cons, has_head, has_tail, or_true}
+use Rattle.dc_stage.proofs.Numbers.{few_below, not_true, has_cons, has_head, has_tail}
 use Rattle.dc_stage.proofs.Logs.{own_none, own_rest, own_hit}
 use Rattle.dc_stage.proofs.Views.{one_of, two_alive, recalls, at_actor}
 use Rattle.atomic_table.specs.Seated.{TableId}
@@ -100,7 +101,7 @@ module _ {Wh St En Ob Sc : Type 0} (p : Meaning Wh St En) (state : Ob → St) (s
   taken_by : (i a : ℕ) → HasTaken s.views i a → took_by i a (past_of v ∷ v.joined) ≡ true
   taken_by i a h = let same = is_only h.0 h.1 h.2 h.3 in ⊎_elim
       (λ (x : (h.1.actor ≡ a) × (has i h.1.took ≡ true)). ap₂ (λ b c. (b && c) || took_by i a v.joined) (eq-eqb a v.actor (sym x.0 ∙ ap (λ (z : View Sc En). z.actor) same)) (ap (λ (z : View Sc En). has i z.took) (sym same) ∙ x.1))
-      (λ (x : took_by i a h.1.joined ≡ true). ap (λ b. ((a == v.actor) && has i v.took) || b) (ap (λ (z : View Sc En). took_by i a z.joined) (sym same) ∙ x) ∙ or_true ((a == v.actor) && has i v.took))
+      (λ (x : took_by i a h.1.joined ≡ true). ap (λ b. ((a == v.actor) && has i v.took) || b) (ap (λ (z : View Sc En). took_by i a z.joined) (sym same) ∙ x) ∙ or-true ((a == v.actor) && has i v.took))
       h.4
 
   all_named : (n : ℕ) (x : Past En) → get_elem? (past_of v ∷ v.joined) n ≡ some x → (i a : ℕ) → has_pair i a x.refused ≡ true → (a ≢ x.actor) × (took_by i a (past_of v ∷ v.joined) ≡ true)

@@ -1,5 +1,6 @@
 -- Another pass is joined to the first, and the rule stays.
 use Rattle.std.proofs.Common.{◌≡◌, ◌≢◌, ℕ, zero, suc, ◌+◌, ◌<◌, ◌≤◌, ◌⊎◌, ◌==◌, ◌||◌, ◌&&◌, ap₂, true, false, cond, List, [], ◌∷◌, length, set, sym, refl, ap, ◌∙◌, subst, inl, inr, ⊎_elim, arith, eq-eqb, true≢false}
+use Rattle.std.proofs.Math.Bool.{or-true}
 use mathlib.Core.Option.{some, some-injective, some-ne-none}
 use mathlib.Core.Logic.{dite}
 use native.Mathlib.Decide.{ℕ_discrete}
@@ -13,7 +14,7 @@ use Rattle.dc_stage.specs.Views.{taking_in, ended, past_of}
 use Rattle.dc_stage.specs.Rule.{CrewIsKept, alive_in, ViewIsKept, IsHome, HasTaken, NamesTakersAmong, IsHeld, IsKept}
 use Rattle.dc_stage.specs.declared.view.Past.{Past}
 use Rattle.dc_stage.specs.declared.view.View.{View}
-use Rattle.dc_stage.proofs.Numbers.{not_true, or_true}
+use Rattle.dc_stage.proofs.Numbers.{not_true}
 use Rattle.dc_stage.proofs.Views.{there, one_of, alive_set, counts, at_actor}
 
 alive_less : {Sc En : Type 0} (views : List (View Sc En)) (k : ℕ) (x y : View Sc En) → get_elem? views k ≡ some x → x.live ≡ true → y.live ≡ false → alive_in (set views k y) + 1 ≡ alive_in views
@@ -105,7 +106,7 @@ module _ {Wh St En Ob Sc : Type 0} (p : Meaning Wh St En) (state : Ob → St) (s
             lv,
             ⊎_elim
                 (λ (x : (h.1.actor ≡ a) × (has i h.1.took ≡ true)). inl (ap (λ (z : View Sc En). z.actor) (sym q) ∙ x.0, ap (λ (z : View Sc En). has i z.took) (sym q) ∙ x.1))
-                (λ (x : took_by i a h.1.joined ≡ true). inr (ap (λ b. ((a == u.actor) && has i u.took) || b) (ap (λ (z : View Sc En). took_by i a z.joined) (sym q) ∙ x) ∙ or_true ((a == u.actor) && has i u.took)))
+                (λ (x : took_by i a h.1.joined ≡ true). inr (ap (λ b. ((a == u.actor) && has i u.took) || b) (ap (λ (z : View Sc En). took_by i a z.joined) (sym q) ∙ x) ∙ or-true ((a == u.actor) && has i u.took)))
                 h.4,
           ))
           (λ m. (h.0, h.1, elsewhere h.0 m n ∙ h.2, h.3, h.4)))

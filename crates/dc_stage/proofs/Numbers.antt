@@ -1,18 +1,16 @@
 -- Lists of numbers.
 use Rattle.std.proofs.Common.{◌≡◌, ◌≢◌, ℕ, zero, suc, ◌<◌, ◌≤◌, ◌⊎◌, ◌==◌, ◌||◌, ◌&&◌, ap₂, Bool, true, false, cond, List, [], ◌∷◌, ◌++◌, length, sym, refl, ap, ◌∙◌, subst, inl, inr, arith, eq-eqb, ne_eqb, true≢false}
+use Rattle.std.proofs.Math.Bool.{or-true}
+use Rattle.std.proofs.lemmas.Bool.{or_parts}
 use mathlib.Core.Logic.{dite}
 use native.Mathlib.Decide.{ℕ_discrete}
 use Rattle.dc_stage.specs.Numbers.{has, has_pair, without, IsApart, IsBelow}
-
-pub or_true : (b : Bool) → (b || true) ≡ true
-or_true true = refl
-or_true false = refl
 
 pub has_cons : (j i : ℕ) (xs : List ℕ) → has j (i ∷ xs) ≡ true → (j ≡ i) ⊎ (has j xs ≡ true)
 has_cons j i xs h = dite (ℕ_discrete j i) (λ e. inl e) (λ n. inr (ap (λ b. b || has j xs) (sym (ne_eqb j i n)) ∙ h))
 
 pub has_tail : (j i : ℕ) (xs : List ℕ) → has j xs ≡ true → has j (i ∷ xs) ≡ true
-has_tail j i xs h = ap (λ b. (j == i) || b) h ∙ or_true (j == i)
+has_tail j i xs h = ap (λ b. (j == i) || b) h ∙ or-true (j == i)
 
 pub has_head : (j i : ℕ) (xs : List ℕ) → j ≡ i → has j (i ∷ xs) ≡ true
 has_head j i xs e = ap (λ b. b || has j xs) (eq-eqb j i e)
@@ -43,14 +41,10 @@ has_snoc j x (y ∷ ys) = ap (λ b. (j == y) || b) (has_snoc j x ys) ∙ swap (j
     swap true false c = refl
     swap false b c = refl
 
-or_false : (a b : Bool) → (a || b) ≡ false → (a ≡ false) × (b ≡ false)
-or_false true b h = absurd (true≢false h)
-or_false false b h = (refl, h)
-
 pub apart_snoc : (x : ℕ) (xs : List ℕ) → has x xs ≡ false → IsApart xs → IsApart (xs ++ x ∷ [])
 apart_snoc x [] h a = (refl, tt)
 apart_snoc x (y ∷ ys) h a =
-    let o = or_false (x == y) (has x ys) h in
+    let o = or_parts (x == y) (has x ys) h in
     let n : (y == x) ≡ false = ne_eqb y x (λ e. true≢false (sym (eq-eqb x y (sym e)) ∙ o.0)) in
     (has_snoc y x ys ∙ (ap (λ b. b || has y ys) n ∙ a.0), apart_snoc x ys o.1 a.1)
 
@@ -67,7 +61,7 @@ apart_without i (x ∷ xs) a = dite (ℕ_discrete i x)
 
 without_absent : (i : ℕ) (xs : List ℕ) → has i xs ≡ false → without i xs ≡ xs
 without_absent i [] h = refl
-without_absent i (x ∷ xs) h = let o = or_false (i == x) (has i xs) h in ap (λ b. cond b (without i xs) (x ∷ without i xs)) o.0 ∙ ap (λ t. x ∷ t) (without_absent i xs o.1)
+without_absent i (x ∷ xs) h = let o = or_parts (i == x) (has i xs) h in ap (λ b. cond b (without i xs) (x ∷ without i xs)) o.0 ∙ ap (λ t. x ∷ t) (without_absent i xs o.1)
 
 length_without : (i : ℕ) (xs : List ℕ) → IsApart xs → length xs ≤ suc (length (without i xs))
 length_without i [] a = omega arith
