@@ -5,13 +5,15 @@ use Rattle.dc_base.specs.Words.{Each}
 use Rattle.dc_base.proofs.EachLaws.{each_nil, each_cons}
 
 -- what is kept was there
-was_by : {A : Type 0} (keep : A → Bool) (x : A) (xs : List A) (h : A) → ((i : ℕ) → slice_get (filter keep xs) i ≡ Some h → (keep h ≡ true) × ((j : ℕ) × (slice_get xs j ≡ Some h))) → (u : Bool) → keep x ≡ u →
+was_by : {A : Type 0} (keep : A → Bool) (x : A) (xs : List A) (h : A) →
+    ((i : ℕ) → slice_get (filter keep xs) i ≡ Some h → (keep h ≡ true) × ((j : ℕ) × (slice_get xs j ≡ Some h))) → (u : Bool) → keep x ≡ u →
     (i : ℕ) → slice_get (if u then x ∷ filter keep xs else filter keep xs) i ≡ Some h → (keep h ≡ true) × ((j : ℕ) × (slice_get (x ∷ xs) j ≡ Some h))
 was_by keep x xs h more true r zero e = let same : x ≡ h = cc in (ap keep (sym same) ∙ r, (0, e))
 was_by keep x xs h more true r (suc i) e = let w = more i e in (w.0, (suc w.1.0, w.1.1))
 was_by keep x xs h more false r i e = let w = more i e in (w.0, (suc w.1.0, w.1.1))
 
-pub was_there : {A : Type 0} (keep : A → Bool) (xs : List A) (h : A) (i : ℕ) → slice_get (filter keep xs) i ≡ Some h → (keep h ≡ true) × ((j : ℕ) × (slice_get xs j ≡ Some h))
+pub was_there : {A : Type 0} (keep : A → Bool) (xs : List A) (h : A) (i : ℕ) → slice_get (filter keep xs) i ≡ Some h →
+    (keep h ≡ true) × ((j : ℕ) × (slice_get xs j ≡ Some h))
 was_there keep [] h i e = absurd cc
 was_there keep (x ∷ xs) h i e = was_by keep x xs h (λ j g. was_there keep xs h j g) (keep x) refl i e
 
@@ -69,4 +71,5 @@ module _ {A : Type 0} (key : A → ℕ) where
     where
       each_later : (zs : List A) → Each zs (λ i a. key x < key a) → Each (map f zs) (λ i a. key (f x) < key a)
       each_later [] k = each_nil (λ i a. key (f x) < key a)
-      each_later (z ∷ zs) k = let l = k 0 z refl in let m = same x in let n = same z in each_cons (λ i a. key (f x) < key a) (f z) (map f zs) (omega (arith, l, m, n)) (each_later zs (λ i a e. k (suc i) a e))
+      each_later (z ∷ zs) k = let l = k 0 z refl in let m = same x in let n = same z in
+          each_cons (λ i a. key (f x) < key a) (f z) (map f zs) (omega (arith, l, m, n)) (each_later zs (λ i a e. k (suc i) a e))

@@ -6,7 +6,8 @@ use Rattle.dc_base.specs.declared.interrupts.Latch.{Latch}
 use Rattle.dc_base.specs.declared.interrupts.Timer.{Timer}
 use Rattle.dc_base.specs.declared.messages.Message.{Message}
 use Rattle.dc_base.specs.Words.{Each, count_of}
-use Rattle.dc_base.specs.Limits.{most_disps, most_ports, most_signals, memory_words, code_room, register_count, disp_slots, longest_period, timer_room, port_room, word_limit}
+use Rattle.dc_base.specs.Limits.{most_disps, most_ports, most_signals, memory_words, code_room, register_count, disp_slots, longest_period, timer_room}
+use Rattle.dc_base.specs.Limits.{port_room, word_limit}
 use Rattle.dc_base.specs.Traps.{last_trap}
 use Rattle.dc_base.specs.Effects.{Context}
 use Rattle.dc_base.specs.Capabilities.{Seat, is_used}

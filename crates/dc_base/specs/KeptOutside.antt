@@ -33,9 +33,11 @@ KeepsCounts s = Each s.lines (λ l w. w.counts.raised ≡ w.counts.stray + w.cou
 abbrev pub has_cap_of_line : ℕ → ControlBlock → Bool
 has_cap_of_line l x = list_any (λ (h : Seat). is_of_line l h.cap.kind) x.parts.caps
 
--- all capabilities of a line stand in one block at most, and in none while the line is offered; the offered rights are at most 7; the number of a pending raise is at most that of the raises
+-- all capabilities of a line stand in one block at most, and in none while the line is offered; the offered rights are at most 7; the number of a pending
+-- raise is at most that of the raises
 pub record KeepsLines (s : State) : Type 0 where
-  pub one : (l b c : ℕ) (x y : Block) → slice_get s.blocks b ≡ Some x → slice_get s.blocks c ≡ Some y → has_cap_of_line l x.control ≡ true → has_cap_of_line l y.control ≡ true → b ≡ c
+  pub one : (l b c : ℕ) (x y : Block) → slice_get s.blocks b ≡ Some x → slice_get s.blocks c ≡ Some y → has_cap_of_line l x.control ≡ true →
+      has_cap_of_line l y.control ≡ true → b ≡ c
   pub none : Each s.lines (λ l w. IsSome w.offer → Each s.blocks (λ b x. has_cap_of_line l x.control ≡ false))
   pub rights : Each s.lines (λ l w. IfSome w.offer (λ (o : ℕ × ℕ). o.1 ≤ 7))
   pub pending : Each s.lines (λ l w. IfSome w.pending (λ n. n ≤ w.counts.raised))

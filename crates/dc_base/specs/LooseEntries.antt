@@ -32,7 +32,8 @@ core_what ws =
     if is_word "slice" verb then
     (if is_word "-" (word_at ws 2)
     then Some (what.SliceNone (record { 0 = number_at ws 1 }) (number_at ws 4) (last_number ws))
-    else option_map (λ e. what.Slice (record { 0 = number_at ws 1 }) (record { 0 = number_at ws 2 }) (number_at ws 4) (number_at ws 6) e (last_number ws)) (end_of (word_at ws 7) (word_at ws 8)))
+    else option_map (λ e. what.Slice (record { 0 = number_at ws 1 }) (record { 0 = number_at ws 2 }) (number_at ws 4) (number_at ws 6) e (last_number ws))
+    (end_of (word_at ws 7) (word_at ws 8)))
     else if is_word "idle" verb then Some (what.Idle (last_number ws))
     else if is_word "wake" verb then Some (what.Wake (record { 0 = number_at ws 1 }) (record { 0 = number_at ws 2 }))
     else if is_word "intake" verb then

@@ -17,7 +17,8 @@ use Rattle.dc_base.specs.declared.capabilities.CapKind.{CapKind}
 use Rattle.dc_base.specs.declared.capabilities.CapKind.TheVariants as kind
 use Rattle.dc_base.specs.declared.commands.ScriptLine.{ScriptLine}
 use Rattle.dc_base.specs.Words.{Each}
-use Rattle.dc_base.specs.Limits.{most_disps, most_ports, most_signals, memory_words, code_room, disp_slots, longest_period, most_capacity, longest_script, longest_schedule, word_limit, clock_start_limit}
+use Rattle.dc_base.specs.Limits.{most_disps, most_ports, most_signals, memory_words, code_room, disp_slots, longest_period, most_capacity, longest_script}
+use Rattle.dc_base.specs.Limits.{longest_schedule, word_limit, clock_start_limit}
 use Rattle.dc_base.specs.Capabilities.{is_of_line}
 use Rattle.dc_base.specs.States.{Settings, settings_of}
 use Rattle.dc_base.specs.KeptByBlocks.{AreWords}
@@ -79,7 +80,8 @@ IsOnAtStart cores h = (k : CoreImage) × (slice_get cores h.0 ≡ Some k) × IsS
 
 -- no core is home of two blocks
 abbrev pub HomesDiffer : List BlockImage → Type 0
-HomesDiffer blocks = (b d : ℕ) (x y : BlockImage) (h : CoreNo) → slice_get blocks b ≡ Some x → slice_get blocks d ≡ Some y → x.home ≡ Some h → y.home ≡ Some h → b ≡ d
+HomesDiffer blocks =
+    (b d : ℕ) (x y : BlockImage) (h : CoreNo) → slice_get blocks b ≡ Some x → slice_get blocks d ≡ Some y → x.home ≡ Some h → y.home ≡ Some h → b ≡ d
 
 -- whether the block is given the line
 abbrev pub is_given_line : ℕ → BlockImage → Bool
@@ -87,7 +89,9 @@ is_given_line l x = list_any (λ (d : DispImage). list_any (λ (c : CapImage). i
 
 -- no line is given to two blocks
 abbrev pub LinesDiffer : List BlockImage → Type 0
-LinesDiffer blocks = (l b d : ℕ) (x y : BlockImage) → slice_get blocks b ≡ Some x → slice_get blocks d ≡ Some y → IsTrue (is_given_line l x) → IsTrue (is_given_line l y) → b ≡ d
+LinesDiffer blocks =
+    (l b d : ℕ) (x y : BlockImage) → slice_get blocks b ≡ Some x → slice_get blocks d ≡ Some y → IsTrue (is_given_line l x) →
+    IsTrue (is_given_line l y) → b ≡ d
 
 -- an image within the limits, whose homes are distinct cores that are on, whose capabilities name what exists, and whose lines are given once
 pub record IsValid (image : Image) : Type 0 where

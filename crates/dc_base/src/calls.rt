@@ -31,7 +31,8 @@ pub enum Need {
     Console,
 }
 
-/// How a slice ended: after its quantum, by `halt`, in a trap from 1 to 12, with a call that was made, at a call that cannot go on, or with no dispatcher ready.
+/// How a slice ended: after its quantum, by `halt`, in a trap from 1 to 12, with a call that was made, at a call that cannot go on, or with no dispatcher
+/// ready.
 #[derive(Clone, Copy, Debug, PartialEq, Eq)]
 pub enum End {
     Quantum,

@@ -177,9 +177,9 @@ impl Table {
         }
     }
 
-    /// Puts what slot `a` of dispatcher `d` holds, with the rights of the mask alone, as its child into slot `b` of dispatcher `to`; `a`, `b` and `to` are below 16.
-    /// `EmptySlot` where slot `a` is empty, then `UsedSlot` where slot `b` is used, then `NoRight` where `to` is another dispatcher and the right to give away is missing,
-    /// then `OutOfRange` where there is no dispatcher `to`.
+    /// Puts what slot `a` of dispatcher `d` holds, with the rights of the mask alone, as its child into slot `b` of dispatcher `to`; `a`, `b` and `to` are
+    /// below 16. `EmptySlot` where slot `a` is empty, then `UsedSlot` where slot `b` is used, then `NoRight` where `to` is another dispatcher and the right
+    /// to give away is missing, then `OutOfRange` where there is no dispatcher `to`.
     pub fn copy(&mut self, d: DispNo, a: u32, to: DispNo, b: u32, mask: u8) -> Result<(), CapFault>
         requires disp { d.0 < self.old.disps }
         requires from { a < 16 }
@@ -207,10 +207,10 @@ impl Table {
         self.graft(slot, masked(cap, mask), from)
     }
 
-    /// Puts the `length` words from `offset` on of the raw memory in slot `a` of dispatcher `d`, with its rights, as its child into slot `b` of that dispatcher;
-    /// `a` and `b` are below 16. `EmptySlot` where slot `a` is empty, then `UsedSlot` where slot `b` is used, then `WrongKind` where slot `a` is no raw memory,
-    /// then `NoRight` where the right to write is missing, then `OutOfRange` where there are no words or some are past its end,
-    /// then `HasChildren` where a child is memory that meets the words.
+    /// Puts the `length` words from `offset` on of the raw memory in slot `a` of dispatcher `d`, with its rights, as its child into slot `b` of that
+    /// dispatcher; `a` and `b` are below 16. `EmptySlot` where slot `a` is empty, then `UsedSlot` where slot `b` is used, then `WrongKind` where slot `a` is
+    /// no raw memory, then `NoRight` where the right to write is missing, then `OutOfRange` where there are no words or some are past its end, then
+    /// `HasChildren` where a child is memory that meets the words.
     pub fn retype(
         &mut self,
         d: DispNo,
@@ -259,7 +259,8 @@ impl Table {
         )
     }
 
-    /// Empties slot `a` of dispatcher `d`; `a` is below 16. Its children go to its parent, or become roots where it has none. `EmptySlot` where the slot is empty.
+    /// Empties slot `a` of dispatcher `d`; `a` is below 16. Its children go to its parent, or become roots where it has none. `EmptySlot` where the slot is
+    /// empty.
     pub fn delete(&mut self, d: DispNo, a: u32) -> Result<(), CapFault>
         requires disp { d.0 < self.old.disps }
         requires slot { a < 16 }

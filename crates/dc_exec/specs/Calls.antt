@@ -1,7 +1,8 @@
 -- Which instructions are kernel calls.
 use Rattle.std.specs.Prelude.{Bool, ◌&&◌, Option, Some, None, is_some}
 use Rattle.dc_base.specs.declared.instructions.Instr.{Instr}
-use Rattle.dc_base.specs.declared.instructions.Instr.TheVariants.{Out, Yield, Send, Recv, Csend, Crecv, Wait, Arm, Copy, Retype, Delete, Revoke, Bind, Give, Claim}
+use Rattle.dc_base.specs.declared.instructions.Instr.TheVariants.{Out, Yield, Send, Recv, Csend, Crecv, Wait, Arm, Copy, Retype, Delete, Revoke, Bind, Give}
+use Rattle.dc_base.specs.declared.instructions.Instr.TheVariants.{Claim}
 use Rattle.dc_base.specs.declared.calls.Op.{Op}
 use Rattle.dc_base.specs.declared.calls.Op.TheVariants as op
 use Rattle.dc_base.specs.Instructions.{is_proper}

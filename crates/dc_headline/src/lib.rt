@@ -1,4 +1,5 @@
-//! The theorem over the definitions: every run of the machine with cores, with cores, kernels, slots and handovers struck out, is a run of the machine of blocks.
+//! The theorem over the definitions: every run of the machine with cores, with cores, kernels, slots and handovers struck out, is a run of the machine of
+//! blocks.
 #![tactic(auto)]
 
 ghost use Rattle.std.specs.Prelude.{◌≡◌, ◌↔◌, List, Some};
@@ -22,8 +23,8 @@ ghost use Rattle.dc_base.specs.Valid.{IsValid, IsValidScript};
 use dc_refine::{openings_run, runs_are_reported, starts_are_openings};
 use dc_sound::{sound_keeps, the_start_is_sound};
 
-/// For every valid image and script and every schedule, the journal is a run of the image and the script, and the report shows the last state of that run, each block once with its holder;
-/// the last state is sound, and stands for the last blocks of the run.
+/// For every valid image and script and every schedule, the journal is a run of the image and the script, and the report shows the last state of that run,
+/// each block once with its holder; the last state is sound, and stands for the last blocks of the run.
 pub fn every_run_is_reported()
     ensures reported { (image : Image) (script : List ScriptLine) (schedule : List (Actor × Action)) → IsValid image → IsValidScript (settings_of image) script →
         IsReportedRun image script (core_run image script schedule).journal (report_lines (core_run image script schedule).state) }

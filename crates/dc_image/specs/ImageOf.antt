@@ -9,7 +9,8 @@ use Rattle.dc_base.specs.declared.images.ChanImage.{ChanImage}
 use Rattle.dc_base.specs.Results.{◌>>=◌, or_fault}
 use Rattle.dc_base.specs.Limits.{longest_file}
 use Rattle.dc_base.specs.FaultText.{ImageRefusal, too_long, not_toml}
-use Rattle.dc_image.specs.ImageKeys.{Table, required, optional, maybe, number_where, number_within, number_below, word_where, item_count, array_within, each_within, table_by, version_of, clocks_in}
+use Rattle.dc_image.specs.ImageKeys.{Table, required, optional, maybe, number_where, number_within, number_below, word_where, item_count, array_within}
+use Rattle.dc_image.specs.ImageKeys.{each_within, table_by, version_of, clocks_in}
 use Rattle.dc_image.specs.BlocksOf.{blocks_in}
 
 unfoldable pub core_in : Table → Result CoreImage ImageRefusal

@@ -85,8 +85,8 @@ fn read_line<'a>(entries: &mut Vec<Entry>, text: &'a [u8]) -> Result<Option<&'a 
     Ok(Some(further))
 }
 
-/// The entries of a journal, read up to the line `report` or the end; or that it is longer than 33,554,432 bytes; or the first line, counted from 1, that is not
-/// the line of an entry whose ticket is the line's number less one. `Memory` is want of memory.
+/// The entries of a journal, read up to the line `report` or the end; or that it is longer than 33,554,432 bytes; or the first line, counted from 1, that is
+/// not the line of an entry whose ticket is the line's number less one. `Memory` is want of memory.
 pub fn read_journal(alloc: Global, bytes: &[u8]) -> Result<Vec<Entry>, JournalFault>
     ensures entries { IfOk result (λ entries. spec.journal_of bytes.now ≡ Ok entries.items) }
     ensures line { (line : ℕ) → result ≡ Err (Bad line) → spec.journal_of bytes.now ≡ Err line }

@@ -28,7 +28,8 @@ MadeByWhoMay image script journal = (before after : List Entry) (e : Entry) → 
 -- commands are answered by line number: the lines never fall, and rise after a command's last entry
 abbrev pub AnsweredByLine : Image → List ScriptLine → List Entry → Type 0
 AnsweredByLine image script journal =
-    (before between after : List Entry) (d e : Entry) (p q : ℕ) → journal ≡ before ++ d ∷ (between ++ e ∷ after) → command_line d.what ≡ Some p → command_line e.what ≡ Some q →
+    (before between after : List Entry) (d e : Entry) (p q : ℕ) → journal ≡ before ++ d ∷ (between ++ e ∷ after) → command_line d.what ≡ Some p →
+    command_line e.what ≡ Some q →
     (p ≤ q) × (IsTrue (finishes p d) → p < q)
 
 -- no command is left out: one is answered when every command above it is finished
@@ -46,12 +47,14 @@ goes_on w = false
 -- an entry of a command that has made one before is a post or done
 abbrev pub AnsweredOnce : Image → List ScriptLine → List Entry → Type 0
 AnsweredOnce image script journal =
-    (before between after : List Entry) (d e : Entry) (q : ℕ) → journal ≡ before ++ d ∷ (between ++ e ∷ after) → command_line d.what ≡ Some q → command_line e.what ≡ Some q → IsTrue (goes_on e.what)
+    (before between after : List Entry) (d e : Entry) (q : ℕ) → journal ≡ before ++ d ∷ (between ++ e ∷ after) → command_line d.what ≡ Some q →
+    command_line e.what ≡ Some q → IsTrue (goes_on e.what)
 
 -- a route entry shows the line and the core of its line of the script
 abbrev pub RoutedAsSaid : Image → List ScriptLine → List Entry → Type 0
 RoutedAsSaid image script journal =
-    (before after : List Entry) (q : ℕ) (l : LineNo) (c : CoreNo) → journal ≡ before ++ by_script (what.Route q l c) ∷ after → slice_get script q ≡ Some (line.Route l c)
+    (before after : List Entry) (q : ℕ) (l : LineNo) (c : CoreNo) → journal ≡ before ++ by_script (what.Route q l c) ∷ after →
+    slice_get script q ≡ Some (line.Route l c)
 
 -- line q of the script awaits this many words of the block
 pub record Awaits (script : List ScriptLine) (q : ℕ) (b : BlockNo) (words : ℕ) : Type 0 where
@@ -61,9 +64,11 @@ pub record Awaits (script : List ScriptLine) (q : ℕ) (b : BlockNo) (words : �
 -- an await that is met saw at least its words
 abbrev pub MetWithEnough : Image → List ScriptLine → List Entry → Type 0
 MetWithEnough image script journal =
-    (before after : List Entry) (q : ℕ) (b : BlockNo) (seen : ℕ) → journal ≡ before ++ by_script (what.Met q b seen) ∷ after → (words : ℕ) × Awaits script q b words × (words ≤ seen)
+    (before after : List Entry) (q : ℕ) (b : BlockNo) (seen : ℕ) → journal ≡ before ++ by_script (what.Met q b seen) ∷ after →
+    (words : ℕ) × Awaits script q b words × (words ≤ seen)
 
 -- an await that is not met saw fewer
 abbrev pub UnmetWithFewer : Image → List ScriptLine → List Entry → Type 0
 UnmetWithFewer image script journal =
-    (before after : List Entry) (q : ℕ) (b : BlockNo) (seen : ℕ) → journal ≡ before ++ by_script (what.Unmet q b seen) ∷ after → (words : ℕ) × Awaits script q b words × (seen < words)
+    (before after : List Entry) (q : ℕ) (b : BlockNo) (seen : ℕ) → journal ≡ before ++ by_script (what.Unmet q b seen) ∷ after →
+    (words : ℕ) × Awaits script q b words × (seen < words)

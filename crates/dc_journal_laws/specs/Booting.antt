@@ -19,7 +19,8 @@ use Rattle.dc_journal_laws.specs.Entries.{before_command, posted_by}
 -- slices, idle entries, wakes and intakes come from cores that are on
 abbrev pub MadeByCoresOn : Image → List ScriptLine → List Entry → Type 0
 MadeByCoresOn image script journal =
-    (before after : List Entry) (c : ℕ) (w : What) → journal ≡ before ++ by_core c w ∷ after → IsTrue (needs_on w) → IsTrue (is_some (booted_at (boot_state image before) c))
+    (before after : List Entry) (c : ℕ) (w : What) → journal ≡ before ++ by_core c w ∷ after → IsTrue (needs_on w) →
+    IsTrue (is_some (booted_at (boot_state image before) c))
 
 -- line q of the script is a boot command that this boot state refuses so, or not at all
 pub record IsAnsweredBy (script : List ScriptLine) (q : ℕ) (registry : Registry) (answer : Option Refusal) : Type 0 where
@@ -30,7 +31,8 @@ pub record IsAnsweredBy (script : List ScriptLine) (q : ℕ) (registry : Registr
 -- a refused entry shows the first refusal that applies to the command in its line
 abbrev pub RefusedByTable : Image → List ScriptLine → List Entry → Type 0
 RefusedByTable image script journal =
-    (before after : List Entry) (q : ℕ) (r : Refusal) → journal ≡ before ++ by_script (what.Refused q r) ∷ after → IsAnsweredBy script q (boot_state image before) (Some r)
+    (before after : List Entry) (q : ℕ) (r : Refusal) → journal ≡ before ++ by_script (what.Refused q r) ∷ after →
+    IsAnsweredBy script q (boot_state image before) (Some r)
 
 -- these and more are all orders of the command, which is not refused
 pub record AreOrders (script : List ScriptLine) (q : ℕ) (registry : Registry) (these more : List (ℕ × Order)) : Type 0 where
@@ -46,4 +48,5 @@ PostedInOrder image script journal =
 -- a command is done where all its orders are posted
 abbrev pub DoneInFull : Image → List ScriptLine → List Entry → Type 0
 DoneInFull image script journal =
-    (before after : List Entry) (q : ℕ) → journal ≡ before ++ by_script (what.Done q) ∷ after → AreOrders script q (boot_state image (before_command q before)) (posted_by q before) []
+    (before after : List Entry) (q : ℕ) → journal ≡ before ++ by_script (what.Done q) ∷ after →
+    AreOrders script q (boot_state image (before_command q before)) (posted_by q before) []

@@ -14,16 +14,19 @@ use Rattle.dc_journal_laws.specs.Entries.{command_line, no_commands, posted, car
 -- an order entry is the last order posted, by the core that it was posted to, and all orders before were carried out
 abbrev pub CarriedOutAsPosted : Image → List ScriptLine → List Entry → Type 0
 CarriedOutAsPosted image script journal =
-    (before after : List Entry) (c : ℕ) (w : What) (o : Order) → journal ≡ before ++ by_core c w ∷ after → order_in w ≡ Some o → posted before ≡ carried_out before ++ (c, o) ∷ []
+    (before after : List Entry) (c : ℕ) (w : What) (o : Order) → journal ≡ before ++ by_core c w ∷ after → order_in w ≡ Some o →
+    posted before ≡ carried_out before ++ (c, o) ∷ []
 
 -- where a command makes an entry, every order posted before was carried out
 abbrev pub CarriedOutBefore : Image → List ScriptLine → List Entry → Type 0
-CarriedOutBefore image script journal = (before after : List Entry) (e : Entry) (q : ℕ) → journal ≡ before ++ e ∷ after → command_line e.what ≡ Some q → posted before ≡ carried_out before
+CarriedOutBefore image script journal =
+    (before after : List Entry) (e : Entry) (q : ℕ) → journal ≡ before ++ e ∷ after → command_line e.what ≡ Some q → posted before ≡ carried_out before
 
 -- between a post and the next entry of a command stands one order entry: this order by this core
 abbrev pub CarriedOutOnce : Image → List ScriptLine → List Entry → Type 0
 CarriedOutOnce image script journal =
-    (before between after : List Entry) (q p : ℕ) (c : CoreNo) (o : Order) (e : Entry) → journal ≡ before ++ by_script (what.Post q c o) ∷ (between ++ e ∷ after) →
+    (before between after : List Entry) (q p : ℕ) (c : CoreNo) (o : Order) (e : Entry) →
+    journal ≡ before ++ by_script (what.Post q c o) ∷ (between ++ e ∷ after) →
     IsTrue (no_commands between) → command_line e.what ≡ Some p → carried_out between ≡ (c.0, o) ∷ []
 
 -- after a post, as long as no command makes an entry, stands at most one order entry: this order by this core

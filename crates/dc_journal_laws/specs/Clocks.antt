@@ -30,7 +30,8 @@ block_time image journal b = option_map (λ (s : Blocks). block_clock s b) (bloc
 -- a release shows the block's clock
 abbrev pub ReleasedInTime : Image → List ScriptLine → List Entry → Type 0
 ReleasedInTime image script journal =
-    (before after : List Entry) (c : ℕ) (b : BlockNo) (time : ℕ) → journal ≡ before ++ by_core c (what.Release b time) ∷ after → block_time image before b.0 ≡ Some time
+    (before after : List Entry) (c : ℕ) (b : BlockNo) (time : ℕ) → journal ≡ before ++ by_core c (what.Release b time) ∷ after →
+    block_time image before b.0 ≡ Some time
 
 -- an adopt shows the block's clock where clocks are kept, and where they run the later of it and the core's clock
 abbrev pub AdoptedInTime : Image → List ScriptLine → List Entry → Type 0
@@ -41,4 +42,5 @@ AdoptedInTime image script journal =
 -- a start shows its core's clock
 abbrev pub StartedInTime : Image → List ScriptLine → List Entry → Type 0
 StartedInTime image script journal =
-    (before after : List Entry) (c : ℕ) (v : Version) (clock : ℕ) → journal ≡ before ++ by_core c (what.Start v clock) ∷ after → clock ≡ core_clock image before c
+    (before after : List Entry) (c : ℕ) (v : Version) (clock : ℕ) → journal ≡ before ++ by_core c (what.Start v clock) ∷ after →
+    clock ≡ core_clock image before c

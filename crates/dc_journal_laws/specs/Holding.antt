@@ -25,12 +25,14 @@ block_in w = None
 -- a slice, a wake, an intake and a release of a block come from the core that holds it
 abbrev pub MadeByHolders : Image → List ScriptLine → List Entry → Type 0
 MadeByHolders image script journal =
-    (before after : List Entry) (c : ℕ) (w : What) (b : ℕ) → journal ≡ before ++ by_core c w ∷ after → block_in w ≡ Some b → IsTrue (holds (held image before) c b)
+    (before after : List Entry) (c : ℕ) (w : What) (b : ℕ) → journal ≡ before ++ by_core c w ∷ after → block_in w ≡ Some b →
+    IsTrue (holds (held image before) c b)
 
 -- a block is adopted where no core holds it
 abbrev pub AdoptedFree : Image → List ScriptLine → List Entry → Type 0
 AdoptedFree image script journal =
-    (before after : List Entry) (c : ℕ) (b : BlockNo) (parked : Bool) (time : ℕ) → journal ≡ before ++ by_core c (what.Adopt b parked time) ∷ after → IsTrue (is_free (held image before) b.0)
+    (before after : List Entry) (c : ℕ) (b : BlockNo) (parked : Bool) (time : ℕ) → journal ≡ before ++ by_core c (what.Adopt b parked time) ∷ after →
+    IsTrue (is_free (held image before) b.0)
 
 -- core c held n blocks, so many pairs end, and it holds none after
 pub record EndsPairs (c n : ℕ) (before after : List (ℕ × ℕ)) : Type 0 where
@@ -41,4 +43,5 @@ pub record EndsPairs (c n : ℕ) (before after : List (ℕ × ℕ)) : Type 0 whe
 -- a stop shows how many blocks its core held, and ends these pairs
 abbrev pub StopsEnd : Image → List ScriptLine → List Entry → Type 0
 StopsEnd image script journal =
-    (before after : List Entry) (c n : ℕ) → journal ≡ before ++ by_core c (what.Stop n) ∷ after → EndsPairs c n (held image before) (held image (before ++ by_core c (what.Stop n) ∷ []))
+    (before after : List Entry) (c n : ℕ) → journal ≡ before ++ by_core c (what.Stop n) ∷ after →
+    EndsPairs c n (held image before) (held image (before ++ by_core c (what.Stop n) ∷ []))

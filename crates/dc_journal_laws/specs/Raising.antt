@@ -15,17 +15,20 @@ use Rattle.dc_journal_laws.specs.Entries.{command_line, is_begun, raised}
 -- a raise shows a raise line of the script, with its line
 abbrev pub RaisedAsSaid : Image → List ScriptLine → List Entry → Type 0
 RaisedAsSaid image script journal =
-    (before after : List Entry) (q : ℕ) (l : LineNo) (r : Raised) → journal ≡ before ++ by_script (what.Raise q l r) ∷ after → slice_get script q ≡ Some (line.Raise l)
+    (before after : List Entry) (q : ℕ) (l : LineNo) (r : Raised) → journal ≡ before ++ by_script (what.Raise q l r) ∷ after →
+    slice_get script q ≡ Some (line.Raise l)
 
 -- raises come by line number
 abbrev pub RaisedByLine : Image → List ScriptLine → List Entry → Type 0
 RaisedByLine image script journal =
-    (before between after : List Entry) (p q : ℕ) (l m : LineNo) (r t : Raised) → journal ≡ before ++ by_script (what.Raise p l r) ∷ (between ++ by_script (what.Raise q m t) ∷ after) → p < q
+    (before between after : List Entry) (p q : ℕ) (l m : LineNo) (r t : Raised) →
+    journal ≡ before ++ by_script (what.Raise p l r) ∷ (between ++ by_script (what.Raise q m t) ∷ after) → p < q
 
 -- no raise is left out: one is made when every raise above it was made
 abbrev pub NoRaiseLeftOut : Image → List ScriptLine → List Entry → Type 0
 NoRaiseLeftOut image script journal =
-    (before after : List Entry) (p q : ℕ) (l m : LineNo) (r : Raised) → journal ≡ before ++ by_script (what.Raise q l r) ∷ after → slice_get script p ≡ Some (line.Raise m) → p < q → IsTrue (lists (raised before) p)
+    (before after : List Entry) (p q : ℕ) (l m : LineNo) (r : Raised) → journal ≡ before ++ by_script (what.Raise q l r) ∷ after →
+    slice_get script p ≡ Some (line.Raise m) → p < q → IsTrue (lists (raised before) p)
 
 -- a raise comes after the first entry of every command above it
 abbrev pub RaisedAfterCommands : Image → List ScriptLine → List Entry → Type 0
@@ -36,4 +39,5 @@ RaisedAfterCommands image script journal =
 -- an entry of a command, and so its first one, comes after every raise above it
 abbrev pub AnsweredAfterRaises : Image → List ScriptLine → List Entry → Type 0
 AnsweredAfterRaises image script journal =
-    (before after : List Entry) (e : Entry) (p q : ℕ) (l : LineNo) → journal ≡ before ++ e ∷ after → command_line e.what ≡ Some q → slice_get script p ≡ Some (line.Raise l) → p < q → IsTrue (lists (raised before) p)
+    (before after : List Entry) (e : Entry) (p q : ℕ) (l : LineNo) → journal ≡ before ++ e ∷ after → command_line e.what ≡ Some q →
+    slice_get script p ≡ Some (line.Raise l) → p < q → IsTrue (lists (raised before) p)

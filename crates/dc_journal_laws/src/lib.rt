@@ -1,4 +1,5 @@
-//! What every run says as a whole journal: who holds which block, which cores are on, and how the script is answered. Each law is the contract of a function that does nothing.
+//! What every run says as a whole journal: who holds which block, which cores are on, and how the script is answered. Each law is the contract of a function
+//! that does nothing.
 #![tactic(auto)]
 
 ghost use Rattle.std.specs.Prelude.{◌↔◌, List, IsTrue};
@@ -35,7 +36,8 @@ pub fn cores_are_on()
     ensures { InEachRun MadeByCoresOn }
 {}
 
-/// A boot command is refused with the first refusal that applies to the boot state at its first entry, and otherwise posts its orders there, in their order, and is done after the last.
+/// A boot command is refused with the first refusal that applies to the boot state at its first entry, and otherwise posts its orders there, in their order,
+/// and is done after the last.
 pub fn boot_commands_follow_the_table()
     ensures refused { InEachRun RefusedByTable }
     ensures posted { InEachRun PostedInOrder }
@@ -61,7 +63,8 @@ pub fn orders_are_carried_out()
     ensures at_most_once { InEachRun OneAtMost }
 {}
 
-/// Raises come by line number, none is left out; a raise comes after the first entry of every command above it, and the first entry of a command after every raise above it.
+/// Raises come by line number, none is left out; a raise comes after the first entry of every command above it, and the first entry of a command after every
+/// raise above it.
 pub fn raises_come_by_line()
     ensures as_said { InEachRun RaisedAsSaid }
     ensures by_line { InEachRun RaisedByLine }
@@ -70,7 +73,8 @@ pub fn raises_come_by_line()
     ensures before_commands { InEachRun AnsweredAfterRaises }
 {}
 
-/// A journal is a run exactly where its events are a run of the machine of blocks, the columns of its entries agree with that machine, and the sentences above hold of it.
+/// A journal is a run exactly where its events are a run of the machine of blocks, the columns of its entries agree with that machine, and the sentences
+/// above hold of it.
 pub fn sentences_say_what_runs_are()
     ensures { (image : Image) (script : List ScriptLine) (journal : List Entry) → IsTrue (run_of image script journal) ↔ SentencesHold image script journal }
 {}

@@ -36,7 +36,17 @@ period_of d = d.period
 
 abbrev pub control_of : Store → Agenda → ControlBlock
 control_of s a = record {
-  parts = record { memory = s.memory; code = s.code; contexts = map context_of a.disps; caps = s.caps; timers = a.timers; next_timer = a.next_timer; ports = s.ports; signals = a.signals };
+  parts =
+      record {
+        memory = s.memory;
+        code = s.code;
+        contexts = map context_of a.disps;
+        caps = s.caps;
+        timers = a.timers;
+        next_timer = a.next_timer;
+        ports = s.ports;
+        signals = a.signals;
+      };
   states = map state_of a.disps;
   dues = map due_of a.disps;
   periods = map period_of a.disps;

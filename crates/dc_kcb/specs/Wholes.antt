@@ -17,7 +17,8 @@ abbrev pub store_in : Parts → Store
 store_in p = record { memory = p.memory.items; code = map (λ v. v.items) p.code.items; caps = p.table.set; ports = p.ports.items }
 
 abbrev pub agenda_in : Parts → Agenda
-agenda_in p = record { disps = p.disps.items; signals = p.signals.items; ready = entries_of p.ready.items; timers = by_number p.timers.items; next_timer = p.next_timer }
+agenda_in p =
+    record { disps = p.disps.items; signals = p.signals.items; ready = entries_of p.ready.items; timers = by_number p.timers.items; next_timer = p.next_timer }
 
 abbrev pub resting_of : Parts → Resting
 resting_of p = record { control = control_of (store_in p) (agenda_in p); kept = p.time }

@@ -5,8 +5,9 @@ use dc_caps::Table;
 use dc_isa::Dispatcher;
 use dc_ports::{Port, Signal};
 
-/// What a kernel control block is made of: the memory of 4,096 words, the code of each dispatcher, the capabilities, the dispatchers,
-/// the ready list in order of arrival with dues, the armed timers by (deadline, number), the number of the timer that is armed next, the ports, the signals, and the kept time.
+/// What a kernel control block is made of: the memory of 4,096 words, the code of each dispatcher, the capabilities, the dispatchers, the ready list in
+/// order of arrival with dues, the armed timers by (deadline, number), the number of the timer that is armed next, the ports, the signals, and the kept
+/// time.
 #[derive(Drop)]
 pub struct Parts {
     pub memory: Vec<u32>,

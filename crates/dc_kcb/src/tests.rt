@@ -40,7 +40,8 @@ fn caps(alloc: Global, caps: &[CapImage]) -> Result<Items<CapImage>, AllocError>
     Ok(Items::from_vec(caps.to_vec(alloc)?))
 }
 
-/// A block with two words of memory, two ports, a signal, and two dispatchers: the first with a port in slot 3 and memory in slot 0, the second with a signal in slot 0.
+/// A block with two words of memory, two ports, a signal, and two dispatchers: the first with a port in slot 3 and memory in slot 0, the second with a
+/// signal in slot 0.
 fn small(alloc: Global) -> Result<BlockImage, AllocError>
     ensures { IfOk result BootsIn }
 {

@@ -31,7 +31,8 @@ done_empty f = record { control = f.control; disp = None; fired = f.count; ran =
 
 abbrev pub done_picked : (Need → Outside) → ℕ → ℕ → ℕ → ℕ → Running → Fired → Option ℕ → Option Done
 done_picked look quantum c n now r f None = Some (done_empty f)
-done_picked look quantum c n now r f (Some d) = option_map (done_by d f.count) (slice.slice_of look quantum c n (time_in now r) r.version (slice.without_ready d f.control) d)
+done_picked look quantum c n now r f (Some d) =
+    option_map (done_by d f.count) (slice.slice_of look quantum c n (time_in now r) r.version (slice.without_ready d f.control) d)
 
 -- the slice of block n on core c, where look gives the object that its call needs
 unfoldable pub done : (Need → Outside) → ℕ → ℕ → ℕ → ℕ → Running → Option Done

@@ -27,7 +27,8 @@ picked now r = pick r.version (fired now r).control.dues (fired now r).control.r
 
 -- the plain part of a slice of dispatcher d
 abbrev pub ahead_at : ℕ → ℕ → ControlBlock → ℕ → Option plain.Ahead
-ahead_at quantum time x d = bind (slice_get x.parts.code d) (λ code. bind (slice_get x.parts.contexts d) (λ c. Some (plain.ahead time code quantum c x.parts.memory)))
+ahead_at quantum time x d =
+    bind (slice_get x.parts.code d) (λ code. bind (slice_get x.parts.contexts d) (λ c. Some (plain.ahead time code quantum c x.parts.memory)))
 
 abbrev pub ahead_in : ℕ → ℕ → Running → Option plain.Ahead
 ahead_in quantum now r = bind (picked now r) (ahead_at quantum (time_in now r) (fired now r).control)

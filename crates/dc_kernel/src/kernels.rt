@@ -23,7 +23,8 @@ use dc_ready::ReadyList;
 use dc_timers::{Clock, TimerQueue};
 use std::marker::Model;
 
-/// A kernel over a ready list, which tells its version, and a queue of timers. Contracts see the block that it drives, how far the block's time is ahead, and the version.
+/// A kernel over a ready list, which tells its version, and a queue of timers. Contracts see the block that it drives, how far the block's time is ahead,
+/// and the version.
 #[derive(Drop)]
 pub struct Kernel<R: ReadyList, T: TimerQueue> {
     form: Form<R, T>,

@@ -19,7 +19,8 @@ use std::alloc::Global;
 use std::process::Abort;
 use std::test::Fail;
 
-/// What is outside the block: its console, the channel from it, the channel to it, which holds one message, and line 0, which is offered over the channel to it.
+/// What is outside the block: its console, the channel from it, the channel to it, which holds one message, and line 0, which is offered over the channel to
+/// it.
 #[derive(Drop)]
 pub(crate) struct World {
     pub(crate) console: Console,

@@ -13,5 +13,6 @@ use Rattle.dc_machine.specs.Lifts.{SameKind}
 
 -- a slice of block b, whose call needs n, took the core, the block and the object outside from the first to the second
 pub record IsSlice (c b : ℕ) (k k' : Core) (x x' : Block) (n : Need) (o o' : Outside) (e : Entry) : Type 0 where
-  pub turn : (s : State) → o ≡ look_here k.settings s b n → outcome s (slice_turn c k b (Some x)) ≡ did (core_becomes c k' ∷ block_becomes b x' ∷ outside_change b n o') e
+  pub turn : (s : State) → o ≡ look_here k.settings s b n →
+      outcome s (slice_turn c k b (Some x)) ≡ did (core_becomes c k' ∷ block_becomes b x' ∷ outside_change b n o') e
   pub kind : (s : State) → o ≡ look_here k.settings s b n → SameKind (look_here k.settings s b n) o'

@@ -40,7 +40,8 @@ first_runnable k share = find (is_runnable k.clock) share
 abbrev pub IsNext : Core → List Looked → Next → Type 0
 IsNext k share next.Nothing = (first_runnable k share ≡ None) × (next_due share ≡ None)
 IsNext k share (next.Idle clock) = (first_runnable k share ≡ None) × (next_due share ≡ Some clock)
-IsNext k share (next.Slice b f) = (x : Block) × (first_runnable k share ≡ Some (record { number = b.0; found = Some x })) × IsForward k.settings.quantum k.clock (running_of x) f
+IsNext k share (next.Slice b f) =
+    (x : Block) × (first_runnable k share ≡ Some (record { number = b.0; found = Some x })) × IsForward k.settings.quantum k.clock (running_of x) f
 
 abbrev pub what_by : BlockNo → Sliced → ℕ → Option DispNo → What
 what_by b s clock None = what.SliceNone b s.fired clock

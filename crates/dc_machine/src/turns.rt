@@ -65,8 +65,8 @@ fn script_action<D: Driver>(objects: &mut Objects<D>, polls: &mut u32, action: &
     }
 }
 
-/// An action of an actor of the machine, from a sound state. `polls` is the number of polls made of the command at which the script stands, at most 1,000,000,000.
-/// The machine serves both versions of the kernel.
+/// An action of an actor of the machine, from a sound state. `polls` is the number of polls made of the command at which the script stands, at most
+/// 1,000,000,000. The machine serves both versions of the kernel.
 #[tactic(auto, using(crate::proofs::ActionTurns::core_alike, crate::proofs::ActionTurns::core_leaves))]
 pub fn step<D: Driver>(
     objects: &mut Objects<D>,

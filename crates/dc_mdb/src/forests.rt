@@ -69,7 +69,8 @@ impl Forest {
         all_slots(&self.links)
     }
 
-    /// All slots that reach `s` by one or more parents, ascending. This takes at most as many steps as the square of the used slots, besides one look at each slot.
+    /// All slots that reach `s` by one or more parents, ascending. This takes at most as many steps as the square of the used slots, besides one look at
+    /// each slot.
     pub fn descendants(&self, s: u32) -> ArrayVec<u32, 256>
         requires { s < 256 }
         ensures { result.items ≡ descendants self.now s }

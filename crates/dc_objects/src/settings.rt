@@ -5,7 +5,8 @@ use dc_base::images::Image;
 use dc_base::kernels::Clocks;
 use std::marker::Model;
 
-/// What never changes: the quantum in instructions, the budget of each core in slices, whether clocks are kept or run, and how many cores, blocks, channels and lines there are.
+/// What never changes: the quantum in instructions, the budget of each core in slices, whether clocks are kept or run, and how many cores, blocks, channels
+/// and lines there are.
 #[derive(Clone, Copy, Debug)]
 pub struct Settings {
     quantum: u32,

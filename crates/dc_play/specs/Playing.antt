@@ -8,7 +8,8 @@ use Rattle.dc_base.specs.CoreRuns.{Run, core_run_from, run_all}
 use Rattle.dc_io.specs.Told.{Adds}
 
 -- so far: the actions before this one were made, and their entries written
-pub record IsPlaying (start : State) (schedule : List (Actor × Action)) (i : ℕ) (told now : Option (List ℕ)) (state : State) (polls entries skipped : ℕ) : Type 0 where
+pub record IsPlaying (start : State) (schedule : List (Actor ×
+    Action)) (i : ℕ) (told now : Option (List ℕ)) (state : State) (polls entries skipped : ℕ) : Type 0 where
   pub run : Run
   pub same_state : state ≡ run.state
   pub same_polls : polls ≡ run.polls

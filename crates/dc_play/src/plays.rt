@@ -77,8 +77,8 @@ pub fn play_out<D: Driver>(objects: &mut Objects<D>, schedule: &Schedule)
     count_actions(objects, schedule.as_slice());
 }
 
-/// Plays a schedule on the machine of an image and a script from its start, and writes the journal and the report, one line a piece. Memory is taken before the first line
-/// alone.
+/// Plays a schedule on the machine of an image and a script from its start, and writes the journal and the report, one line a piece. Memory is taken before
+/// the first line alone.
 pub fn play<D: Driver, S: Sink>(
     alloc: Global,
     image: &Image,

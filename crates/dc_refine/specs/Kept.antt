@@ -11,4 +11,6 @@ use Rattle.dc_base.specs.Sound.{IsSound}
 
 -- each action of each actor leads from a sound state to a sound state
 abbrev pub SoundnessStays : Type 0
-SoundnessStays = (s : State) (polls : ℕ) (who : Actor) (a : Action) (changes : List Change) (e : Entry) → IsSound s → core_step s polls who a ≡ did changes e → IsSound (apply s changes)
+SoundnessStays =
+    (s : State) (polls : ℕ) (who : Actor) (a : Action) (changes : List Change) (e : Entry) → IsSound s → core_step s polls who a ≡ did changes e →
+    IsSound (apply s changes)

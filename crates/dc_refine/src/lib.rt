@@ -31,8 +31,8 @@ ghost use Rattle.dc_base.specs.Valid.{IsValid};
 ghost use Rattle.dc_refine.specs.Follows.{Follows};
 ghost use Rattle.dc_refine.specs.Kept.{SoundnessStays};
 
-/// Each entry that an action gives in a sound state is a step of a run, from what agrees with the state and stands for it; and what the step comes to agrees with the
-/// state after it and stands for it.
+/// Each entry that an action gives in a sound state is a step of a run, from what agrees with the state and stands for it; and what the step comes to agrees
+/// with the state after it and stands for it.
 pub fn entries_follow()
     ensures { (terms : Terms) (lines : List ScriptLine) (s : State) (t : Blocks) (n : Seen) (polls : ℕ) (who : Actor) (a : Action) (changes : List Change) (e : Entry) →
         IsSound s → StandsFor s t → Agrees s n → n.blocks ≡ t → IsOf terms lines s → core_step s polls who a ≡ did changes e → Follows terms lines n e (apply s changes) }
@@ -57,8 +57,8 @@ pub fn starts_agree()
     ensures terms { (image : Image) (script : List ScriptLine) → IsOf (terms_of image) script (core_start image script) }
 {}
 
-/// Where soundness is kept, the journal of a schedule's run is a run of the image and the script, and its report shows the last state of that run, each block once with
-/// its holder; the last state is sound, stands for the last blocks, and agrees with all that the journal has told.
+/// Where soundness is kept, the journal of a schedule's run is a run of the image and the script, and its report shows the last state of that run, each
+/// block once with its holder; the last state is sound, stands for the last blocks, and agrees with all that the journal has told.
 pub fn runs_are_reported()
     ensures reported { (image : Image) (script : List ScriptLine) (schedule : List (Actor × Action)) → IsValid image → IsSound (core_start image script) → SoundnessStays →
         IsReportedRun image script (core_run image script schedule).journal (report_lines (core_run image script schedule).state) }
@@ -97,8 +97,8 @@ pub fn runs_are_lawful_histories()
     ensures state { (t : Settings) (s : State) (schedule : List (Actor × Action)) → after s (history_of t (core_run_from s schedule).journal) ≡ (core_run_from s schedule).state }
 {}
 
-/// Where soundness is kept, the journal of a schedule's run from an opening and its report are a reported run from there; its last state stands for the last blocks, and agrees with all that
-/// the journal has told.
+/// Where soundness is kept, the journal of a schedule's run from an opening and its report are a reported run from there; its last state stands for the last
+/// blocks, and agrees with all that the journal has told.
 pub fn openings_run()
     ensures reported { (s : State) (schedule : List (Actor × Action)) → IsOpening s → SoundnessStays →
         IsReportedRunFrom s (core_run_from s schedule).journal (report_lines (core_run_from s schedule).state) }

@@ -9,7 +9,8 @@ use Rattle.dc_base.specs.Timers.{in_order}
 use Rattle.dc_base.specs.Channels.{Ring}
 use Rattle.dc_base.specs.Lines.{Wire}
 use Rattle.dc_base.specs.States.{State, Core, Block, core_in, time_of}
-use Rattle.dc_base.specs.Report.{block_no, core_lines, disp_lines, cap_line, port_lines, signal_lines, block_lines, channel_lines, offer_lines, latches_of, line_lines, out_lines}
+use Rattle.dc_base.specs.Report.{block_no, core_lines, disp_lines, cap_line, port_lines, signal_lines, block_lines, channel_lines, offer_lines, latches_of}
+use Rattle.dc_base.specs.Report.{line_lines, out_lines}
 use Rattle.dc_report.specs.declared.places.Part.{Part}
 use Rattle.dc_report.specs.declared.places.Part.TheVariants as part
 use Rattle.dc_report.specs.declared.places.Place.{Place}
@@ -58,7 +59,8 @@ part_lines b x (part.Signal i) = signals_from b i x
 
 -- the first line of a block
 abbrev pub head_line : List Core → ℕ → Block → ReportLine
-head_line cores b x = line.Block (block_no b) (option_map (λ c. record { 0 = c }) (core_in x.whereabouts)) (time_of cores x.whereabouts) (length x.control.parts.timers)
+head_line cores b x =
+    line.Block (block_no b) (option_map (λ c. record { 0 = c }) (core_in x.whereabouts)) (time_of cores x.whereabouts) (length x.control.parts.timers)
 
 abbrev pub outs_from : ℕ → ℕ → State → List ReportLine
 outs_from b i s = from_within out_lines b i s.consoles

@@ -1,5 +1,5 @@
-/// A place among the lines of a block that come after its first line. A number is that of the dispatcher, slot, port or signal whose line is next, or of the first after it that has one.
-/// For timers it is the place in their order, and a message has the number of its port and its place there.
+/// A place among the lines of a block that come after its first line. A number is that of the dispatcher, slot, port or signal whose line is next, or of the
+/// first after it that has one. For timers it is the place in their order, and a message has the number of its port and its place there.
 #[derive(Clone, Copy, Debug)]
 pub(crate) enum Part {
     Disp(u32),

@@ -38,7 +38,8 @@ module _ (t : Settings) (s : State) (sizes : HasSizes t s) where
     there : at s name ≡ Some object
 
   module _ (changes : List Change) (e : Entry) where
-    core_there : (c : ℕ) (a : Action) (ns : List Name) (found : Option Core) → slice_get s.cores c ≡ found → outcome s (core_turn c a found) ≡ did changes e → IsSomeThere (a_core c ∷ ns)
+    core_there : (c : ℕ) (a : Action) (ns : List Name) (found : Option Core) → slice_get s.cores c ≡ found →
+        outcome s (core_turn c a found) ≡ did changes e → IsSomeThere (a_core c ∷ ns)
     core_there c a ns None h k = never _ changes e refl k
     core_there c a ns (Some x) h k = record {
       name = a_core c;
@@ -51,7 +52,8 @@ module _ (t : Settings) (s : State) (sizes : HasSizes t s) where
     script_there : (ns : List Name) → IsSomeThere (the_script ∷ ns)
     script_there ns = record { name = the_script; object = script s.script; listed = inl refl; within = tt; there = refl }
 
-    actor_there : (polls : Script → ℕ) (who : Actor) (a : Action) → outcome s (turn_of polls who a) ≡ did changes e → IsSomeThere (looks s (turn_of polls who a))
+    actor_there : (polls : Script → ℕ) (who : Actor) (a : Action) → outcome s (turn_of polls who a) ≡ did changes e →
+        IsSomeThere (looks s (turn_of polls who a))
     unfolding turn_of
     actor_there polls (actor.Core c) a k = core_there c.0 a _ (slice_get s.cores c.0) refl k
     actor_there polls actor.Script action.Script k = script_there _
@@ -74,5 +76,9 @@ module _ (t : Settings) (s : State) (sizes : HasSizes t s) where
   pub touches_there : (e : Entry) → IsLawful s e → (i : ℕ) × (o : Object) × IsAmong i (touched_numbers t s e) × (at_number t s i ≡ Some o)
   unfolding touched_numbers at_number
   touches_there e h =
-      let x = touched_there e h in
-      (object_number t x.name, x.object, among_number x.name (touched s e) x.listed, ap (λ (n : Option Name). bind n (at s)) (name_at-number t x.name x.within) ∙ x.there)
+      let x = touched_there e h in (
+        object_number t x.name,
+        x.object,
+        among_number x.name (touched s e) x.listed,
+        ap (λ (n : Option Name). bind n (at s)) (name_at-number t x.name x.within) ∙ x.there,
+      )

@@ -1,5 +1,6 @@
 -- The laws of the scene of a machine.
-use Rattle.std.proofs.Common.{◌≡◌, ℕ, ◌==◌, ◌||◌, Bool, true, false, true≢false, List, [], ◌∷◌, Option, Some, None, refl, sym, ap, ◌∙◌, inl, inr, eq-eqb, eqb-true}
+use Rattle.std.proofs.Common.{◌≡◌, ℕ, ◌==◌, ◌||◌, Bool, true, false, true≢false, List, [], ◌∷◌, Option, Some, None, refl, sym, ap, ◌∙◌, inl, inr, eq-eqb}
+use Rattle.std.proofs.Common.{eqb-true}
 use Rattle.std.proofs.Math.Bool.{or-true}
 use Rattle.dc_base.specs.declared.entries.Entry.{Entry}
 use Rattle.dc_base.specs.States.{State, Settings}
@@ -47,7 +48,8 @@ module _ (t : Settings) (start : State) where
     same_sizes_by true h = found_sizes t v h
     same_sizes_by false h =
         let x = touches_there t w l.sizes e l.lawful.1 in
-        let is : Some x.1 ≡ None = sym x.3 ∙ (sym (at_sizes t w l.sizes x.0) ∙ (same x.0 (among_found x.0 (touched_numbers t w e) x.2) ∙ no_object t v h x.0)) in
+        let is : Some x.1 ≡ None = sym x.3 ∙
+        (sym (at_sizes t w l.sizes x.0) ∙ (same x.0 (among_found x.0 (touched_numbers t w e) x.2) ∙ no_object t v h x.0)) in
         absurd (true≢false (ap is_there is))
 
     same_sizes : HasSizes t v
@@ -63,5 +65,8 @@ module _ (t : Settings) (start : State) where
   pub machine_local : IsLocal (machine t start)
   machine_local w v by e l same =
       let sizes = same_sizes w v by e l same in
-      let x = local_number t w v l.sizes sizes e (agree_at w v by e l same) by l.lawful in
-      (sym x.touched_same, record { sizes = sizes; lawful = x.lawful }, λ i h. same_next w v by e l same i (x.next_same i (found_among i (touched_numbers t w e) h)))
+      let x = local_number t w v l.sizes sizes e (agree_at w v by e l same) by l.lawful in (
+        sym x.touched_same,
+        record { sizes = sizes; lawful = x.lawful },
+        λ i h. same_next w v by e l same i (x.next_same i (found_among i (touched_numbers t w e) h)),
+      )

@@ -9,7 +9,9 @@ use Rattle.dc_stage.specs.History.{Meaning}
 
 -- whether there are as many objects of each kind as the settings say
 unfoldable pub has_sizes : Settings → State → Bool
-has_sizes t s = (length s.cores == t.cores) && (length s.blocks == t.blocks) && (length s.channels == t.channels) && (length s.lines == t.lines) && (length s.mailboxes == t.cores) && (length s.consoles == t.blocks)
+has_sizes t s =
+    (length s.cores == t.cores) && (length s.blocks == t.blocks) && (length s.channels == t.channels) && (length s.lines == t.lines) &&
+    (length s.mailboxes == t.cores) && (length s.consoles == t.blocks)
 
 -- the state of the object of a number, if there is one; in a state of other sizes there is none
 unfoldable pub at_sized : Settings → State → ℕ → Option Object

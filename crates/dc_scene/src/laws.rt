@@ -38,7 +38,8 @@ pub fn start_opens<D: Driver>()
         ⟦<Machine<D> as Scene>⟧.state x ≡ (⟦<Machine<D> as Scene>⟧.meaning m).at (⟦<Machine<D> as Scene>⟧.meaning m).start i }
 {}
 
-/// A lawful history of the scene is one of the machine, the state after it is the machine's, and so is each object. An entry touches what it does in the machine.
+/// A lawful history of the scene is one of the machine, the state after it is the machine's, and so is each object. An entry touches what it does in the
+/// machine.
 pub fn history_is_of_the_machine<D: Driver>()
     ensures lawful { (m : Played D) → HasSizes m.settings m.start → (log : Log Entry) →
         IsLawful (⟦<Machine<D> as Scene>⟧.meaning m) log ↔ IsLawfulHistory m.settings m.start log }

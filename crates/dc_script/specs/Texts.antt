@@ -19,12 +19,15 @@ abbrev pub counted_words : List ℕ → List (List ℕ)
 counted_words line = if counts line then first_words line else []
 
 -- what a text says that begins with these lines, the first of which has this number, behind what was found
-abbrev pub said_from : {A : Type 0} → (List (List ℕ) → Result A TextKind) → (limit : ℕ) → (found : List A) → (number : ℕ) → List (List ℕ) → Result (List A) TextFault
+abbrev pub said_from : {A : Type 0} → (List (List ℕ) → Result A TextKind) → (limit : ℕ) → (found : List A) → (number : ℕ) → List (List ℕ) →
+    Result (List A) TextFault
 said_from read limit found number lines = joined found (lines_read read (limit - length found) (counted_from number lines))
 
 -- with a line read, the further lines say the same behind it as before, or the fault is the line's
-abbrev pub AddsLine : {A : Type 0} → (List (List ℕ) → Result A TextKind) → (limit : ℕ) → (old new : List A) → (number : ℕ) → (line : List ℕ) → Result (Unit {0}) TextFault → Type 0
-AddsLine read limit old new number line (Ok u) = (more : List (List ℕ)) → said_from read limit old number (line ∷ more) ≡ said_from read limit new (number + 1) more
+abbrev pub AddsLine : {A : Type 0} → (List (List ℕ) → Result A TextKind) → (limit : ℕ) → (old new : List A) → (number : ℕ) → (line : List ℕ) →
+    Result (Unit {0}) TextFault → Type 0
+AddsLine read limit old new number line (Ok u) =
+    (more : List (List ℕ)) → said_from read limit old number (line ∷ more) ≡ said_from read limit new (number + 1) more
 AddsLine read limit old new number line (Err Memory) = Unit {0}
 AddsLine read limit old new number line (Err fault) = (more : List (List ℕ)) → said_from read limit old number (line ∷ more) ≡ Err fault
 

@@ -38,7 +38,8 @@ pub fn mailboxes_follow()
     ensures { (s : State) (polls : ℕ) (who : Actor) (a : Action) (changes : List Change) (e : Entry) → core_step s polls who a ≡ did changes e → MailboxesFollow s → IsInForm s → MailboxesFollow (apply s changes) }
 {}
 
-/// A posted order goes on to fit: for start the core is off, for all others on; a block to be released is in the share, one to be adopted is at rest and finds room.
+/// A posted order goes on to fit: for start the core is off, for all others on; a block to be released is in the share, one to be adopted is at rest and
+/// finds room.
 pub fn posts_fit_on()
     ensures { (s : State) (polls : ℕ) (who : Actor) (a : Action) (changes : List Change) (e : Entry) → core_step s polls who a ≡ did changes e → PostsFit s → IsPlaced s → MailboxesFollow s → IsInForm s → IsRegistered s → IsSettled s → PostsFit (apply s changes) }
 {}

@@ -30,7 +30,8 @@ impl Numbered for DispNo {
     }
 }
 
-/// Adds the numbers with a comma between each two, or a dash for none, behind a space where the line is not empty. There is to be room for as many numbers of 32 bits.
+/// Adds the numbers with a comma between each two, or a dash for none, behind a space where the line is not empty. There is to be room for as many numbers
+/// of 32 bits.
 pub fn push_list<T: Numbered>(line: &mut Line, items: &[T])
     requires { array_string_len line.old + 11 * length items.now + 2 ≤ 256 }
     ensures added { line.new.bytes ≡ add_word line.old.bytes (comma_list (map T.number items.now)) }

@@ -44,7 +44,8 @@ pub data PlayAnswers (image script schedule : List ℕ) (bytes : Contents) (call
   -- a part of what belongs to one of the two above
   write_fault : Rose call.sink_faults call.sink_faults_after →
       AddsPrefix call.told call.told_after (play_verdict bytes.image bytes.script bytes.schedule).text → PlayAnswers image script schedule bytes call 6
-  both_faults : (name : List ℕ) → FaultOf image script schedule bytes name → Rose call.shelf_faults call.shelf_faults_after → Rose call.sink_faults call.sink_faults_after →
+  both_faults : (name : List ℕ) → FaultOf image script schedule bytes name → Rose call.shelf_faults call.shelf_faults_after →
+      Rose call.sink_faults call.sink_faults_after →
       AddsPrefix call.told call.told_after (ended (read_fault_line name)) → PlayAnswers image script schedule bytes call 6
   no_memory : call.told_after ≡ call.told → PlayAnswers image script schedule bytes call 7
 

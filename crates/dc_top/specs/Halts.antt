@@ -42,13 +42,16 @@ name_of which.Schedule image script schedule = schedule
 
 -- why three files are not played: the first that is refused, or one that could not be read, or memory was wanting
 abbrev pub Halts : Files → (image script schedule : List ℕ) → (before now : ℕ) → Halt → Type 0
-Halts files image script schedule before now (halt.Refused r) = OfFiles files image script schedule (λ bytes. play_verdict bytes.image bytes.script bytes.schedule ≡ verdict_of r)
-Halts files image script schedule before now (halt.Unread w) = Rose before now × OfFiles files image script schedule (λ bytes. FaultOf image script schedule bytes (name_of w image script schedule))
+Halts files image script schedule before now (halt.Refused r) =
+    OfFiles files image script schedule (λ bytes. play_verdict bytes.image bytes.script bytes.schedule ≡ verdict_of r)
+Halts files image script schedule before now (halt.Unread w) =
+    Rose before now × OfFiles files image script schedule (λ bytes. FaultOf image script schedule bytes (name_of w image script schedule))
 Halts files image script schedule before now halt.Memory = ⊤
 
 -- the line of a halt was written with its status; where memory was wanting there is none
 abbrev pub HaltTold : Halt → (image script schedule : List ℕ) → (faults faults_after : ℕ) → (told told_after : Option (List ℕ)) → ℕ → Type 0
-HaltTold (halt.Refused r) image script schedule faults faults_after told told_after status = WritesAs faults faults_after told told_after (status_of r) (ended (line_of r)) status
+HaltTold (halt.Refused r) image script schedule faults faults_after told told_after status =
+    WritesAs faults faults_after told told_after (status_of r) (ended (line_of r)) status
 HaltTold (halt.Unread w) image script schedule faults faults_after told told_after status =
     WritesAs faults faults_after told told_after 5 (ended (read_fault_line (name_of w image script schedule))) status
 HaltTold halt.Memory image script schedule faults faults_after told told_after status = (status ≡ 7) × (told_after ≡ told)

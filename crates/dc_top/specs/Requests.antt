@@ -33,7 +33,8 @@ UsageTold call status = WritesAs call.sink_faults call.sink_faults_after call.to
 
 -- a play is answered by bytes that its files may hold, and the summary of a generated input by its number
 abbrev pub RequestAnswers : Option (List ℕ → List ℕ) → Call → ℕ → Request → Type 0
-RequestAnswers files call status (play image script schedule) = OfFiles files image script schedule (λ bytes. PlayAnswers image script schedule bytes call status)
+RequestAnswers files call status (play image script schedule) =
+    OfFiles files image script schedule (λ bytes. PlayAnswers image script schedule bytes call status)
 RequestAnswers files call status (gen n) = PlaysAs call.sink_faults call.sink_faults_after call.told call.told_after (gen_text n) status
 
 -- what the words ask for is answered
@@ -43,7 +44,8 @@ CommandAnswers words files call status = MatchOption (request_of words) (UsageTo
 -- what was written for a request that was done: a text that tells a run of the files that a play names, or the summary of the generated input
 abbrev pub RequestTold : Option (List ℕ → List ℕ) → Option (List ℕ) → Option (List ℕ) → Option Request → Type 0
 RequestTold shelf before after None = ⊥
-RequestTold shelf before after (Some (play image script schedule)) = OfFiles shelf image script schedule (λ bytes. Wrote before after (TellsPlay bytes.image bytes.script bytes.schedule))
+RequestTold shelf before after (Some (play image script schedule)) =
+    OfFiles shelf image script schedule (λ bytes. Wrote before after (TellsPlay bytes.image bytes.script bytes.schedule))
 RequestTold shelf before after (Some (gen n)) = Adds before after (gen_text n)
 
 -- the statuses of what the words ask for: where no form has them, that of the usage, or 6 where it was not written whole

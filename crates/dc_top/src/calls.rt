@@ -69,9 +69,10 @@ fn play_inputs<S: Sink>(
     status_of_play(played)
 }
 
-/// Loads and reads an image, a script and a schedule, and stops at the first fault; then plays the schedule, and writes the journal and the report, one line a piece.
-/// The answer is a status: 0 where the whole text was written; 2, 3 or 4 where the image, the script or the schedule is refused, with a line that says why; 5 where a
-/// file could not be read, with a line that names it; 6 where a put failed, with a part of the text that belongs to the case; 7 where memory was wanting, with nothing.
+/// Loads and reads an image, a script and a schedule, and stops at the first fault; then plays the schedule, and writes the journal and the report, one line
+/// a piece. The answer is a status: 0 where the whole text was written; 2, 3 or 4 where the image, the script or the schedule is refused, with a line that
+/// says why; 5 where a file could not be read, with a line that names it; 6 where a put failed, with a part of the text that belongs to the case; 7 where
+/// memory was wanting, with nothing.
 #[tactic(auto, using(crate::proofs::Answers::plays_write_fault, crate::proofs::Answers::plays_no_memory, crate::proofs::Answers::plays_no_read, crate::proofs::Answers::plays_listed, crate::proofs::Answers::halt_answers, crate::proofs::Answers::halt_read_fault, crate::proofs::Answers::halt_write_fault, crate::proofs::Answers::halt_no_memory, crate::proofs::Answers::halt_listed))]
 pub fn play_call<H: Shelf, S: Sink>(
     alloc: Global,

@@ -118,8 +118,8 @@ fn command_of_three<H: Shelf, S: Sink>(
     }
 }
 
-/// Does what the words of a command line, those behind the program's name, ask for. The forms are `play IMAGE SCRIPT SCHEDULE` and `gen N`; words of another form are
-/// answered by the usage line and 1, and a status of the call else. The gate is for cores that run in threads of their own; no form has these yet.
+/// Does what the words of a command line, those behind the program's name, ask for. The forms are `play IMAGE SCRIPT SCHEDULE` and `gen N`; words of another
+/// form are answered by the usage line and 1, and a status of the call else. The gate is for cores that run in threads of their own; no form has these yet.
 pub fn command<H: Shelf, S: Sink, G: Gate>(
     alloc: Global,
     words: &[String],

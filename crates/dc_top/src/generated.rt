@@ -56,8 +56,8 @@ fn put_summary<S: Sink>(summary: Summary, sink: &mut S) -> Result<(), Failed>
     put_count("sum", summary.sum as u64, sink)
 }
 
-/// Plays the generated input of number `n`, at most 65,535, and writes the four lines of its summary, one line a piece. The answer is a status: 0 where all was written, 6 where
-/// a put failed, with a part of the text, and 7 where memory was wanting, with nothing.
+/// Plays the generated input of number `n`, at most 65,535, and writes the four lines of its summary, one line a piece. The answer is a status: 0 where all
+/// was written, 6 where a put failed, with a part of the text, and 7 where memory was wanting, with nothing.
 pub fn gen_call<S: Sink>(alloc: Global, sink: &mut S, n: u32) -> u8
     requires { n ≤ 65535 }
     // At status 0 the text written is the summary of the generated input of this number.

@@ -16,7 +16,8 @@ use dc_ready::ReadyList;
 use dc_timers::TimerQueue;
 
 impl<R: ReadyList, T: TimerQueue> Form<R, T> {
-    /// Makes a child of the raw memory in slot `a`, in slot `b`: of as many words as register 7 says, from the one on that register 6 says. A frame where `imm` is 1.
+    /// Makes a child of the raw memory in slot `a`, in slot `b`: of as many words as register 7 says, from the one on that register 6 says. A frame where
+    /// `imm` is 1.
     pub(crate) fn retype(&mut self, d: DispNo, a: u32, b: u32, imm: u32) -> Answer
         requires running { IsRunning d.0 self.old }
         requires proper { IsTrue (is_proper (Retype a b imm)) }
