@@ -11,7 +11,7 @@ use Rattle.dc_base.specs.Kernel.{with_mask, memory_cap}
 use Rattle.dc_base.specs.KeptByBlocks.{HasShape, HasCaps}
 use Rattle.dc_base.specs.Lines.{Wire}
 use Rattle.dc_base.specs.States.{State}
-use Rattle.dc_block_sound.proofs.Ascending.{was_there, each_filter}
+use Rattle.dc_base.proofs.Ascending.{was_there, each_filter}
 use Rattle.dc_block_sound.proofs.ControlSteps.{woken, stands_still, held_up, copied, retyped, deleted, revoked, given, claimed, StepKeepsUnder}
 use Rattle.dc_block_sound.proofs.Forests.{IsForest, put_forest, revoked_forest, deleted_forest, given_forest, stands, adopted, adopted_slot, adopted_cap}
 use Rattle.dc_block_sound.proofs.Forms.{same_shape}

@@ -6,7 +6,7 @@ use Rattle.dc_base.specs.Words.{Each, is_number, count_of}
 use Rattle.dc_base.specs.Capabilities.{Seat, seat_at, is_used, parent_in, parent_at, with_seat, reaches_in, reaches, after_revoke, with_parent, after_delete, slots_of_line, without_line}
 use Rattle.dc_base.specs.KeptByBlocks.{Falls}
 use Rattle.dc_block_sound.proofs.Elements.{same_is, is_same, not_same, other_is}
-use Rattle.dc_block_sound.proofs.Ascending.{was_there, each_filter, Ascends, ascends_filter, ascends_map}
+use Rattle.dc_base.proofs.Ascending.{was_there, each_filter, Ascends, ascends_filter, ascends_map}
 use Rattle.std.proofs.lemmas.Bool.{or_parts}
 use Rattle.dc_block_sound.proofs.Seats.{in_filter, in_map, map_there, IsSeat, used_seat, there_used, seat_found, each_put, still_used, ascends_put}
 

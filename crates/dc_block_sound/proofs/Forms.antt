@@ -19,7 +19,7 @@ use Rattle.dc_base.specs.Ports.{messages_in, ports_after_send, signal_after, sig
 use Rattle.dc_base.specs.States.{State}
 use Rattle.dc_base.specs.Lines.{line_latch}
 use Rattle.std.proofs.lemmas.Option.{slice_get_within}
-use Rattle.dc_block_sound.proofs.Ascending.{ascends_filter, ascends_append, each_filter, length_filter}
+use Rattle.dc_base.proofs.Ascending.{ascends_filter, ascends_append, each_filter, length_filter}
 use Rattle.dc_base.proofs.EachLaws.{each-set, each-append, each_nil, each_cons}
 use Rattle.dc_block_sound.proofs.ControlSteps.{Runs, IsStill, timer_latch, Step, due_grew, woken, stands_still, held_up, fired, latched, went, moved_on, latch_taken, port_sent, port_taken, received, armed, StepKeeps}
 use Rattle.dc_block_sound.proofs.PlainMoves.{Going, one_set, two_set, jumped, passed, stored, Acts, acts}

@@ -5,7 +5,6 @@ pub mod PlainMoves
 pub mod ControlSteps
 pub mod Calls
 pub mod Walks
-pub mod Ascending
 pub mod Forms
 pub mod Seats
 pub mod Forests

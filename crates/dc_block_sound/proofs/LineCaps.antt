@@ -11,7 +11,7 @@ use Rattle.dc_base.specs.Capabilities.{Seat, after_delete, slots_of_line, withou
 use Rattle.dc_base.specs.Kernel.{with_mask, memory_cap}
 use Rattle.dc_base.specs.KeptOutside.{has_cap_of_line}
 use Rattle.dc_base.specs.States.{State}
-use Rattle.dc_block_sound.proofs.Ascending.{was_there}
+use Rattle.dc_base.proofs.Ascending.{was_there}
 use Rattle.dc_block_sound.proofs.CapForms.{each_deleted, each_revoked, each_given, each_fold}
 use Rattle.dc_block_sound.proofs.ControlSteps.{Step, copied, retyped, deleted, revoked, given, claimed, Steps, kept_by}
 use Rattle.dc_block_sound.proofs.Elements.{is_same}

@@ -18,7 +18,7 @@ use Rattle.dc_base.specs.Named.{Names, StateNames, BlockNames}
 use Rattle.dc_base.specs.States.{State}
 use Rattle.dc_base.proofs.EachLaws.{each-set, each-append}
 use Rattle.dc_block_sound.specs.SoundControls.{NamesOwn, WaitsOwn, NamesWithin}
-use Rattle.dc_block_sound.proofs.Ascending.{each_filter}
+use Rattle.dc_base.proofs.Ascending.{each_filter}
 use Rattle.dc_block_sound.proofs.CapForms.{each_deleted, each_revoked, each_given}
 use Rattle.dc_block_sound.proofs.ControlSteps.{Holds, MayWait, IsStill, woken, stands_still, held_up, fired, armed, copied, retyped, deleted, revoked, given, claimed, StepKeeps}
 use Rattle.dc_block_sound.proofs.Forms.{SameShape, same_shape, each_map}

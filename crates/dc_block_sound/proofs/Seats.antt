@@ -9,7 +9,7 @@ use Rattle.dc_base.specs.Words.{Each}
 use Rattle.dc_base.specs.Capabilities.{Seat, seat_at, cap_at, is_used, with_seat}
 use Rattle.dc_base.proofs.EachLaws.{each_nil, each_cons}
 use Rattle.dc_block_sound.proofs.Elements.{same_is, is_same}
-use Rattle.dc_block_sound.proofs.Ascending.{Ascends, ascends_cons, ascends_first, ascends_rest}
+use Rattle.dc_base.proofs.Ascending.{Ascends, ascends_cons, ascends_first, ascends_rest}
 
 -- it is one of the list
 abbrev pub In : {A : Type 0} → List A → A → Type 0

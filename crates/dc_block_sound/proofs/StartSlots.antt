@@ -8,7 +8,7 @@ use Rattle.dc_base.specs.Capabilities.{Seat, slot_number, is_used}
 use Rattle.dc_base.specs.Parts.{with_seats, seats_from}
 use Rattle.dc_base.specs.Valid.{SlotsDiffer}
 use Rattle.dc_base.proofs.EachLaws.{each_nil}
-use Rattle.dc_block_sound.proofs.Ascending.{ascends_nil}
+use Rattle.dc_base.proofs.Ascending.{ascends_nil}
 use Rattle.dc_block_sound.proofs.Forests.{IsForest, seat_slot, put_forest}
 use Rattle.dc_block_sound.proofs.Seats.{EachCap, each_put, used_seat}
 

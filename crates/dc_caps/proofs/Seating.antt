@@ -9,7 +9,7 @@ use Rattle.dc_base.specs.Capabilities as spec
 use Rattle.dc_base.specs.Capabilities.{Seat, seat_at, cap_at, is_used, parent_in, with_seat, with_parent, after_revoke, after_delete}
 use Rattle.dc_mdb.specs.Forests as forest
 use Rattle.dc_mdb.specs.Forests.{Node, node_at, has_slot, with_node, without_slot, without_descendants}
-use Rattle.dc_mdb.proofs.Ascending.{is_same, not_same}
+use Rattle.dc_mdb.proofs.Elements.{is_same, not_same}
 use Rattle.dc_caps.specs.Seats.{no_cap, seat_of, seats_of}
 
 module _ (caps : List Cap) where

@@ -11,7 +11,8 @@ use Rattle.dc_base.specs.Kernel.{with_mask}
 use Rattle.dc_base.proofs.EachLaws.{each_nil, each_cons, each-set}
 use Rattle.dc_mdb.specs.Forests as forest
 use Rattle.dc_mdb.specs.Forests.{Node, has_slot, with_node, without_slot, without_descendants, IsForest}
-use Rattle.dc_mdb.proofs.Ascending.{map_there, each_filter}
+use Rattle.dc_base.proofs.Ascending.{each_filter}
+use Rattle.dc_mdb.proofs.Elements.{map_there}
 use Rattle.dc_mdb.proofs.Nodes.{each_put}
 use Rattle.dc_caps.specs.Caps.{IsCap, IsTable}
 use Rattle.dc_caps.specs.Seats.{no_cap, seat_of, seats_of}

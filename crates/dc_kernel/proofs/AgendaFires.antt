@@ -12,7 +12,7 @@ use Rattle.dc_base.specs.Words.{Each}
 use Rattle.dc_timers.specs.Numbers.{without_fired}
 use Rattle.dc_kcb.specs.Controls.{Store, Agenda, control_of}
 use Rattle.dc_kernel.proofs.AgendaWrites.{no_store}
-use Rattle.dc_block_sound.proofs.Ascending.{each_filter}
+use Rattle.dc_base.proofs.Ascending.{each_filter}
 use Rattle.dc_timers.proofs.Least.{soonest-there}
 
 due-soonest : (time : ℕ) (ts : List Timer) (t : Timer) → due_timer time ts ≡ Some t → soonest ts ≡ Some t

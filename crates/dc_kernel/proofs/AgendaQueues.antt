@@ -13,7 +13,7 @@ use Rattle.dc_base.proofs.EachLaws.{each-append}
 use Rattle.dc_isa.specs.declared.dispatchers.Dispatcher.{Dispatcher}
 use Rattle.dc_ready.specs.Entries.{dispatchers, without_disp}
 use Rattle.dc_ready.proofs.Listed.{once-push, once-without}
-use Rattle.dc_block_sound.proofs.Ascending.{each_filter}
+use Rattle.dc_base.proofs.Ascending.{each_filter}
 use Rattle.dc_block_sound.proofs.Elements.{set_other}
 use Rattle.dc_kcb.specs.Controls.{Store, Agenda, control_of, state_of, due_of}
 use Rattle.dc_kernel.specs.Queued.{AreQueued}

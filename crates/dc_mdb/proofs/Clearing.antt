@@ -6,7 +6,8 @@ use Rattle.std.proofs.lemmas.Bool.Decides.{nat_tests}
 use Rattle.dc_base.specs.Words.{Each, lists}
 use Rattle.dc_base.proofs.EachLaws.{each_first, each_rest}
 use Rattle.dc_mdb.specs.Forests.{Node, reaches, descendants, without_descendants, IsForest}
-use Rattle.dc_mdb.proofs.Ascending.{same_is, other_is, Ascends, ascends_first, ascends_rest, each_filter, map_there}
+use Rattle.dc_base.proofs.Ascending.{Ascends, ascends_first, ascends_rest, each_filter}
+use Rattle.dc_mdb.proofs.Elements.{same_is, other_is, map_there}
 use Rattle.dc_mdb.proofs.Linked.{is_not, slot_of}
 
 abbrev pub is_none_of : List ℕ → Node → Bool

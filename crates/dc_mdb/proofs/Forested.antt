@@ -7,7 +7,7 @@ use Rattle.dc_mdb.specs.declared.links.Link.{Link}
 use Rattle.dc_mdb.specs.declared.links.Link.TheVariants.{Absent, Root, Child}
 use Rattle.dc_mdb.specs.Forests.{Node, has_slot, parent_at, with_node, with_parent, without_slot, without_descendants, descendants, IsForest}
 use Rattle.dc_mdb.specs.Links.{nodes_of, link_to, link_parent, is_there, with_link}
-use Rattle.dc_mdb.proofs.Ascending.{ascends_nil}
+use Rattle.dc_base.proofs.Ascending.{ascends_nil}
 use Rattle.dc_mdb.proofs.Clearing.{out_below, is_none_of}
 use Rattle.dc_mdb.proofs.Leaving.{removed_rooted}
 use Rattle.dc_mdb.proofs.Linked.{slot_of, is_not, has_slot_links, parent_at_links, links_with_root, links_with_child, links_without, links_hung, links_ascend, links_below}

@@ -3,7 +3,8 @@ use Rattle.std.proofs.Common.{◌≡◌, ℕ, ◌<◌, List, Bool, true, false, 
 use Rattle.std.specs.Prelude.{slice_get, ◌==◌, not, if◌then◌else◌, filter, IfSome}
 use Rattle.dc_base.specs.Words.{is_number}
 use Rattle.dc_mdb.specs.Forests.{Node, node_at, has_slot, parent_in, parent_at, with_parent, without_slot}
-use Rattle.dc_mdb.proofs.Ascending.{other_is, is_same, not_same, was_there, in_filter, in_map, map_there}
+use Rattle.dc_base.proofs.Ascending.{was_there}
+use Rattle.dc_mdb.proofs.Elements.{other_is, is_same, not_same, in_filter, in_map, map_there}
 use Rattle.dc_mdb.proofs.Nodes.{used_node, there_used, node_found}
 use Rattle.dc_mdb.proofs.Rooted.{IsRooted}
 

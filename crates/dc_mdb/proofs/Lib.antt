@@ -1,4 +1,4 @@
-pub mod Ascending
+pub mod Elements
 pub mod Nodes
 pub mod Rooted
 pub mod Ranks

@@ -8,7 +8,8 @@ use Rattle.dc_mdb.specs.declared.links.Link.{Link}
 use Rattle.dc_mdb.specs.declared.links.Link.TheVariants.{Absent, Root, Child}
 use Rattle.dc_mdb.specs.Forests.{Node, node_at, has_slot, parent_in, parent_at, with_node, with_parent}
 use Rattle.dc_mdb.specs.Links.{node_of, nodes_of, link_parent, is_there, link_to, with_link}
-use Rattle.dc_mdb.proofs.Ascending.{same_is, other_is, Ascends, ascends_nil, ascends_cons}
+use Rattle.dc_base.proofs.Ascending.{Ascends, ascends_nil, ascends_cons}
+use Rattle.dc_mdb.proofs.Elements.{same_is, other_is}
 
 abbrev nodes_from : ℕ → List Link → List Node
 nodes_from k links = numbered node_of k links

@@ -4,7 +4,7 @@ use Rattle.std.specs.Prelude.{slice_get, nat_lt, ◌==◌, if◌then◌else◌, 
 use Rattle.dc_base.specs.Words.{Each}
 use Rattle.dc_base.proofs.EachLaws.{each_cons}
 use Rattle.dc_mdb.specs.Forests.{Node, node_at, has_slot, with_node}
-use Rattle.dc_mdb.proofs.Ascending.{same_is, is_same, In, in_later}
+use Rattle.dc_mdb.proofs.Elements.{same_is, is_same, In, in_later}
 
 -- slots that are there
 

@@ -3,7 +3,7 @@ use Rattle.std.proofs.Common.{◌≡◌, ℕ, zero, suc, ◌+◌, ◌-◌, ◌<�
 use Rattle.std.specs.Prelude.{◌==◌, ◌||◌, not, if◌then◌else◌, filter, IfSome, is_some}
 use Rattle.std.proofs.lemmas.Bool.{or_parts}
 use Rattle.dc_mdb.specs.Forests.{Node, node_at, has_slot, parent_in, parent_at, reaches_in, reaches, without_descendants}
-use Rattle.dc_mdb.proofs.Ascending.{was_there, each_filter}
+use Rattle.dc_base.proofs.Ascending.{was_there, each_filter}
 use Rattle.dc_mdb.proofs.Nodes.{IsNode, used_node}
 use Rattle.dc_mdb.proofs.Ranks.{below, below_less, below_some}
 use Rattle.dc_mdb.proofs.Rooted.{IsRooted}

@@ -3,7 +3,7 @@ use Rattle.std.proofs.Common.{◌≡◌, ℕ, ◌+◌, ◌<◌, List, true, fals
 use Rattle.std.specs.Prelude.{slice_get, ◌==◌, if◌then◌else◌, IfSome}
 use Rattle.dc_base.specs.Words.{Each}
 use Rattle.dc_mdb.specs.Forests.{Node, has_slot, with_node, Falls, IsForest}
-use Rattle.dc_mdb.proofs.Ascending.{same_is, other_is}
+use Rattle.dc_mdb.proofs.Elements.{same_is, other_is}
 use Rattle.dc_mdb.proofs.Nodes.{there_used, each_put, still_used}
 
 -- each parent is there, and ranks fall to roots

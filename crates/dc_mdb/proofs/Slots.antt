@@ -8,7 +8,7 @@ use Rattle.dc_mdb.specs.declared.links.Link.{Link}
 use Rattle.dc_mdb.specs.declared.links.Link.TheVariants.{Absent, Root, Child}
 use Rattle.dc_mdb.specs.Forests.{Node, has_slot, parent_at, with_parent, without_slot, IsForest}
 use Rattle.dc_mdb.specs.Links.{node_of, nodes_of, is_there}
-use Rattle.dc_mdb.proofs.Ascending.{other_is}
+use Rattle.dc_mdb.proofs.Elements.{other_is}
 use Rattle.dc_mdb.proofs.Descending.{numbered_more}
 use Rattle.dc_mdb.proofs.Nodes.{there_used}
 

@@ -2,7 +2,7 @@
 use Rattle.std.proofs.Common.{◌≡◌, ℕ, zero, suc, ◌+◌, ◌-◌, ◌<◌, List, Bool, false, Option, Some, None, refl, sym, ap, ◌∙◌, arith}
 use Rattle.std.specs.Prelude.{◌==◌, ◌||◌}
 use Rattle.dc_mdb.specs.Forests.{Node, parent_at, reaches_in}
-use Rattle.dc_mdb.proofs.Ascending.{other_is}
+use Rattle.dc_mdb.proofs.Elements.{other_is}
 
 pub reaches_none : (n : ℕ) (nodes : List Node) (s : ℕ) → reaches_in n nodes s None ≡ false
 reaches_none zero nodes s = refl

@@ -21,7 +21,7 @@ use Rattle.dc_base.specs.Named.{Names, WaitNames, StateNames, SourceNames, Block
 use Rattle.dc_base.specs.Ports.{signal_after, signals_after}
 use Rattle.dc_base.specs.States.{State}
 use Rattle.dc_base.proofs.EachLaws.{each-set, each-change, each-append}
-use Rattle.dc_block_sound.proofs.Ascending.{each_filter}
+use Rattle.dc_base.proofs.Ascending.{each_filter}
 use Rattle.dc_block_sound.proofs.CapForms.{each_deleted, each_revoked, each_given}
 use Rattle.dc_block_sound.proofs.ControlSteps.{Holds, MayWait, IsStill, timer_latch, woken, stands_still, held_up, fired, latched, latch_taken, armed, copied, retyped, deleted, revoked, given, claimed, StepKeeps}
 use Rattle.dc_block_sound.proofs.Forms.{SameShape, same_shape, each_map}

@@ -18,7 +18,7 @@ use Rattle.dc_base.specs.Parts.{with_words, words_at}
 use Rattle.dc_base.specs.Ports.{messages_in, latch_of, latch_at, signal_after, signals_after}
 use Rattle.dc_base.specs.States.{State}
 use Rattle.dc_base.proofs.EachLaws.{each-set, each-change, each-append, each_nil}
-use Rattle.dc_block_sound.proofs.Ascending.{each_filter}
+use Rattle.dc_base.proofs.Ascending.{each_filter}
 use Rattle.dc_sound.proofs.BlockNaming.{held_names}
 use Rattle.dc_block_sound.proofs.Calls.{IsRead}
 use Rattle.dc_block_sound.proofs.ControlSteps.{InFrame, timer_latch, fired, latched, went, moved_on, latch_taken, port_sent, port_taken, received, armed, StepKeepsUnder}
