@@ -1,22 +1,13 @@
 //! The words of a line, and their numbers.
 
-ghost use Rattle.std.specs.Prelude.{◌≡◌, ◌+◌, ◌<◌, ◌≤◌, ◌^◌, length, slice_range, bytes_eq};
+ghost use Rattle.std.specs.Prelude.{◌≡◌, ◌+◌, ◌<◌, ◌≤◌, ◌^◌, length, bytes_eq};
 ghost use Rattle.dc_base.specs.TextWords.{first_words};
 ghost use Rattle.dc_base.specs.LooseWords as spec;
-ghost use Rattle.dc_text.specs.Places.{IsPlaceIn};
 ghost use Rattle.dc_journal.specs.Lines.{texts};
 
 use arrayvec::ArrayVec;
 use dc_base::numbers::{BlockNo, CoreNo, LineNo};
-use dc_text::words;
-
-/// The bytes at a place of a line.
-fn word_in(line: &[u8], place: (u32, u32)) -> &[u8]
-    requires { IsPlaceIn line.now place }
-    ensures { result.now ≡ slice_range line.now place.0 place.1 }
-{
-    &line[place.0 as usize..place.1 as usize]
-}
+use dc_text::{word_in, words};
 
 /// The first 16 words of a line.
 pub(crate) fn words_in(line: &[u8]) -> ArrayVec<&[u8], 16>

@@ -4,6 +4,7 @@ ghost use Rattle.std.specs.Prelude.{All};
 ghost use Rattle.dc_text.specs.Places.{IsPlaceIn};
 
 use dc_base::faults::TextKind;
+use dc_text::word_in;
 
 /// Words of a line, each at the place from its first byte to the byte behind its last.
 #[derive(Clone, Copy)]
@@ -14,7 +15,7 @@ pub(crate) struct Words<'a> {
 }
 
 impl<'a> Words<'a> {
-    ghost use Rattle.std.specs.Prelude.{◌≡◌, [], ◌∷◌, slice_range, MatchOption};
+    ghost use Rattle.std.specs.Prelude.{◌≡◌, [], ◌∷◌, MatchOption};
     ghost use Rattle.dc_text.specs.Places.{texts_at};
     ghost use Rattle.dc_script.specs.Words.{texts_of, AreNone, IsOne, AreTwo, AreThree};
 
@@ -26,21 +27,16 @@ impl<'a> Words<'a> {
         Words { line, places }
     }
 
-    /// The bytes at a place.
-    fn text(&self, place: (u32, u32)) -> &'a [u8]
-        requires { IsPlaceIn self.now.line.now place }
-        ensures { result.now ≡ slice_range self.now.line.now place.0 place.1 }
-    {
-        &self.line[place.0 as usize..place.1 as usize]
-    }
-
     /// The first word and the others. None where there is no word.
     pub(crate) fn split_first(&self) -> Option<(&'a [u8], Words<'a>)>
         ensures { MatchOption result (texts_of self.now ≡ []) (λ found. texts_of self.now ≡ found.0.now ∷ texts_of found.1) }
     {
         match self.places {
             [] => None,
-            [first, others @ ..] => Some((self.text(*first), Words::at(self.line, others))),
+            [first, others @ ..] => Some((
+                word_in(self.line, *first),
+                Words::at(self.line, others),
+            )),
         }
     }
 
@@ -59,7 +55,7 @@ impl<'a> Words<'a> {
         ensures { IsOne (texts_of self.now) result }
     {
         match self.places {
-            [first] => Ok(self.text(*first)),
+            [first] => Ok(word_in(self.line, *first)),
             _ => Err(TextKind::WrongCount),
         }
     }
@@ -69,7 +65,7 @@ impl<'a> Words<'a> {
         ensures { AreTwo (texts_of self.now) result }
     {
         match self.places {
-            [first, second] => Ok((self.text(*first), self.text(*second))),
+            [first, second] => Ok((word_in(self.line, *first), word_in(self.line, *second))),
             _ => Err(TextKind::WrongCount),
         }
     }
@@ -80,9 +76,9 @@ impl<'a> Words<'a> {
     {
         match self.places {
             [first, second, third] => Ok((
-                self.text(*first),
-                self.text(*second),
-                self.text(*third),
+                word_in(self.line, *first),
+                word_in(self.line, *second),
+                word_in(self.line, *third),
             )),
             _ => Err(TextKind::WrongCount),
         }

@@ -10,5 +10,5 @@ mod tests;
 
 pub use lines::{Line, push_number, push_u32, push_u64, push_word};
 pub use lists::{Numbered, push_list};
-pub use reading::{number, words};
+pub use reading::{number, word_in, words};
 pub use scan::{first_line, place_of_byte};

@@ -1,4 +1,4 @@
-ghost use Rattle.std.specs.Prelude.{◌≡◌, ◌+◌, ◌<◌, ◌^◌, ◌++◌, length, take, All};
+ghost use Rattle.std.specs.Prelude.{◌≡◌, ◌+◌, ◌<◌, ◌^◌, ◌++◌, length, take, slice_range, All};
 ghost use Rattle.dc_base.specs.TextWords.{first_words, number_of};
 ghost use Rattle.dc_text.specs.Places.{place_if_any, places_of, texts_at, IsPlaceIn, IsScanned};
 
@@ -47,6 +47,14 @@ fn push_place(found: &mut ArrayVec<(u32, u32), 16>, from: usize, to: usize)
     if from < to {
         found.push((from as u32, to as u32));
     }
+}
+
+/// The bytes at a place of a line.
+pub fn word_in(line: &[u8], place: (u32, u32)) -> &[u8]
+    requires { IsPlaceIn line.now place }
+    ensures { result.now ≡ slice_range line.now place.0 place.1 }
+{
+    &line[place.0 as usize..place.1 as usize]
 }
 
 /// The number that 1 to 10 decimal digits write.
