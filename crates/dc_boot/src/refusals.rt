@@ -5,9 +5,8 @@ ghost use Rattle.dc_base.specs.Boot.{refusal, already_on, off, same_version, not
 use crate::registry::Registry;
 use dc_base::commands::{Command, Refusal};
 use dc_base::kernels::Version;
+use dc_base::limits::MOST_PARKED;
 use dc_base::numbers::{BlockNo, CoreNo};
-
-const MOST_PARKED: u32 = 8;
 
 impl Registry {
     /// The first refusal of the command that applies, in the order of the causes.
@@ -121,7 +120,7 @@ impl Registry {
     fn share_full(&self, c: CoreNo) -> Option<Refusal>
         ensures { result ≡ share_full self.now c }
     {
-        if self.parked_on(c) < MOST_PARKED {
+        if self.parked_on(c) < MOST_PARKED as u32 {
             return None;
         }
         Some(Refusal::ShareFull { core: c })

@@ -7,6 +7,7 @@ ghost use Rattle.dc_caps.specs.Caps.{IsRange};
 ghost use Rattle.dc_caps.specs.Seats.{no_cap};
 
 use dc_base::capabilities::{Cap, CapKind};
+use dc_base::limits::DISP_SLOTS;
 use dc_base::numbers::{DispNo, LineNo};
 
 /// The right to write.
@@ -22,7 +23,7 @@ pub(crate) fn slot_number(d: DispNo, s: u32) -> u32
     ensures value { result ≡ slot_number d.0 s }
     ensures within { result < 256 }
 {
-    16 * d.0 + s
+    DISP_SLOTS * d.0 + s
 }
 
 /// The capability at a place.

@@ -1,11 +1,10 @@
 ghost use Rattle.std.specs.Prelude.{◌≡◌, ◌<◌, ◌≤◌, ◌↔◌, [], ◌∷◌, ◌++◌, length, slice_get, IsTrue, IsOk, IfOk, OnOk, OnErr};
 ghost use Rattle.dc_base.specs.Limits.{console_room};
 
+use dc_base::limits::CONSOLE_ROOM;
 use dc_base::memory::Memory;
 use std::alloc::Global;
 use std::marker::Model;
-
-const ROOM: usize = 65536;
 
 /// The console has 65,536 words.
 #[derive(Clone, Copy, Debug, PartialEq, Eq)]
@@ -35,7 +34,7 @@ impl Console {
     pub fn new(alloc: Global) -> Result<Console, Memory>
         ensures { IfOk result (λ c. c ≡ []) }
     {
-        let words = Vec::with_capacity(alloc, ROOM)?;
+        let words = Vec::with_capacity(alloc, CONSOLE_ROOM)?;
         Ok(Console { words })
     }
 
@@ -45,7 +44,7 @@ impl Console {
         ensures pushed { OnOk result (self.new ≡ self.old ++ w ∷ []) }
         ensures kept { OnErr result (self.new ≡ self.old) }
     {
-        if self.words.len() >= ROOM {
+        if self.words.len() >= CONSOLE_ROOM {
             return Err(ConsoleFull);
         }
         self.words.push_reserved(w);

@@ -1,8 +1,7 @@
 -- What is seen ahead by one more instruction.
 use Rattle.std.proofs.Common.{◌≡◌, ℕ, suc, ◌+◌, ◌-◌, ◌<◌, List, ◌++◌, refl, ap, ◌∙◌, sym, arith}
 use mathlib.Core.List.{append_assoc}
-use Rattle.std.proofs.lemmas.List.{append-nil}
-use Rattle.dc_base.specs.Effects.{Context, Move, goes, halts, traps, calls, act}
+use Rattle.dc_base.specs.Effects.{Context, Move, goes, act}
 use Rattle.dc_base.specs.Ahead.{Ahead, ahead, ahead_from, one_more}
 use Rattle.dc_exec.specs.Changes.{Change}
 use Rattle.dc_exec.specs.Turns.{stores_at}

@@ -8,6 +8,8 @@ ghost use Rattle.dc_exec.specs.Changes.{memory_of};
 ghost use Rattle.dc_exec.specs.Steps.{IsLive, Makes, Loads, Stores, context_of};
 
 use crate::windows::Window;
+use dc_base::limits::MEMORY_WORDS;
+use dc_base::traps::PAST_MEMORY;
 use dc_isa::{DispState, Dispatcher, Instr};
 
 /// What a plain instruction came to.
@@ -67,7 +69,7 @@ fn address(d: &Dispatcher, b: u32, imm: u32) -> Option<u32>
         SomeIff result (sum < 4096) sum }
 {
     let address = u64::from(reg(d, b)) + u64::from(imm);
-    if address < 4096 {
+    if address < MEMORY_WORDS as u64 {
         Some(address as u32)
     } else {
         None
@@ -84,7 +86,7 @@ fn load(d: &mut Dispatcher, mem: &Window, a: u32, b: u32, imm: u32) -> Went
 {
     match address(d, b, imm) {
         Some(address) => set(d, a, mem.word(address)),
-        None => Went::Trap(3),
+        None => Went::Trap(PAST_MEMORY),
     }
 }
 
@@ -103,7 +105,7 @@ fn store(d: &mut Dispatcher, mem: &mut Window, a: u32, b: u32, imm: u32) -> Went
             mem.put(address, reg(d, a));
             next(d)
         }
-        None => Went::Trap(3),
+        None => Went::Trap(PAST_MEMORY),
     }
 }
 

@@ -12,6 +12,7 @@ ghost use Rattle.dc_exec.specs.Turns.{Turns};
 use crate::calls::call_name;
 use crate::steps::{Went, plain};
 use crate::windows::Window;
+use dc_base::traps::{NO_INSTRUCTION, PAST_CODE};
 use dc_isa::{Dispatcher, Instr, decode};
 
 /// What stands at a place came to.
@@ -39,10 +40,10 @@ pub(crate) fn run_place(d: &mut Dispatcher, code: &[u32], mem: &mut Window, time
         Turns result d.old d.new mem.old mem.new code.now move }
 {
     let Some(word) = word_at(code, d.place) else {
-        return Turn::Trap(2);
+        return Turn::Trap(PAST_CODE);
     };
     let Some(instr) = decode(word) else {
-        return Turn::Trap(1);
+        return Turn::Trap(NO_INSTRUCTION);
     };
     if call_name(&instr).is_some() {
         return Turn::Call(instr);

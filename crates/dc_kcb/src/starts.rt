@@ -8,6 +8,7 @@ ghost use Rattle.dc_kcb.specs.Starts.{disp_of, dues_from};
 
 use arrayvec::ArrayVec;
 use dc_base::images::DispImage;
+use dc_base::limits::MEMORY_WORDS;
 use dc_base::numbers::DispNo;
 use dc_isa::{DispState, Dispatcher};
 use dc_ports::{Port, Signal};
@@ -18,9 +19,9 @@ pub(crate) fn whole_memory(alloc: Global, words: &[u32]) -> Result<Vec<u32>, All
     requires { length words.now ≤ 4096 }
     ensures { IfOk result (λ v. v.items ≡ whole_memory words.now) }
 {
-    let mut memory = Vec::with_capacity(alloc, 4096)?;
+    let mut memory = Vec::with_capacity(alloc, MEMORY_WORDS)?;
     memory.extend_from_slice(words)?;
-    memory.resize(4096, 0)?;
+    memory.resize(MEMORY_WORDS, 0)?;
     Ok(memory)
 }
 
