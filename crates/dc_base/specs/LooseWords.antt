@@ -24,10 +24,7 @@ last_word [] = []
 last_word (word ∷ []) = word
 last_word (word ∷ next ∷ words) = last_word (next ∷ words)
 
--- the numbers of a byte, of 32 bits and of 64 bits at a place
-abbrev pub small_at : List (List ℕ) → ℕ → ℕ
-small_at words i = loose_number (2 ^ 8) (word_at words i)
-
+-- the numbers of 32 bits and of 64 bits at a place
 abbrev pub number_at : List (List ℕ) → ℕ → ℕ
 number_at words i = loose_number (2 ^ 32) (word_at words i)
 

@@ -8,8 +8,6 @@ mod plan;
 mod refusals;
 mod registry;
 mod start;
-#[cfg(test)]
-mod tests;
 
 pub use dc_base::commands::{Command, Order, Refusal};
 pub use kernel::Kernel;

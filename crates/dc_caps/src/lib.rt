@@ -4,11 +4,7 @@
 mod faults;
 mod held;
 mod kinds;
-#[cfg(test)]
-mod plain;
 mod table;
-#[cfg(test)]
-mod tests;
 
 pub use faults::{CapFault, trap};
 pub use table::Table;

@@ -3,8 +3,6 @@
 
 mod channel;
 mod console;
-#[cfg(test)]
-mod tests;
 
 pub use channel::{Channel, ChannelFull};
 pub use console::{Console, ConsoleFull};

@@ -14,5 +14,3 @@ pub use slices::{ahead, apply};
 pub use steps::{Went, plain};
 pub use windows::Window;
 
-#[cfg(test)]
-mod tests;

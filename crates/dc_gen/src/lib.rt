@@ -10,8 +10,6 @@ mod codes;
 mod images;
 mod schedules;
 mod scripts;
-#[cfg(test)]
-mod tests;
 
 use dc_base::images::Image;
 use dc_base::memory::Memory;

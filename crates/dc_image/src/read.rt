@@ -37,6 +37,3 @@ pub fn read_image(alloc: Global, bytes: &[u8]) -> Result<Image, ImageFault>
         Err(fault) => Err(fault.told()),
     }
 }
-
-#[cfg(test)]
-mod tests;

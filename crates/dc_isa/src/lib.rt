@@ -18,5 +18,3 @@ pub use dc_base::instructions::Instr;
 pub use dispatchers::Dispatcher;
 pub use words::{decode, encode, is_proper};
 
-#[cfg(test)]
-mod tests;

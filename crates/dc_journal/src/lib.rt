@@ -9,8 +9,6 @@ mod merging;
 mod names;
 mod refusals;
 mod reports;
-#[cfg(test)]
-mod tests;
 mod whats;
 mod words;
 

@@ -10,8 +10,6 @@ mod readers;
 mod seating;
 mod slots;
 mod starts;
-#[cfg(test)]
-mod tests;
 
 pub use copies::copied;
 pub use fields::{code_in, disp_in, dispatchers_are_read, latch_in, port_in};

@@ -3,8 +3,6 @@
 
 mod counts;
 mod line;
-#[cfg(test)]
-mod tests;
 
 pub use counts::Counts;
 pub use dc_base::interrupts::Raised;

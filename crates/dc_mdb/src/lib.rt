@@ -3,7 +3,5 @@
 
 mod forests;
 mod links;
-#[cfg(test)]
-mod tests;
 
 pub use forests::{Forest, ForestFault};

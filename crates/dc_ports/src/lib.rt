@@ -3,8 +3,6 @@
 
 mod port;
 mod signal;
-#[cfg(test)]
-mod tests;
 
 pub use dc_base::interrupts::{Latch, Latched, Source};
 pub use port::{Port, PortFull};

@@ -5,8 +5,6 @@ mod due_heaps;
 mod fifos;
 mod heaps;
 mod lists;
-#[cfg(test)]
-mod tests;
 
 pub use due_heaps::DueHeap;
 pub use fifos::Fifo;

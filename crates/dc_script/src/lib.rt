@@ -4,8 +4,6 @@
 mod commands;
 mod schedules;
 mod scripts;
-#[cfg(test)]
-mod tests;
 mod texts;
 mod values;
 mod words;

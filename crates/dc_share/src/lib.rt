@@ -3,7 +3,5 @@
 
 mod seat;
 mod share;
-#[cfg(test)]
-mod tests;
 
 pub use share::Share;

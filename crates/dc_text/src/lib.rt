@@ -5,8 +5,6 @@ mod lines;
 mod lists;
 mod reading;
 mod scan;
-#[cfg(test)]
-mod tests;
 
 pub use lines::{Line, push_number, push_u32, push_u64, push_word};
 pub use lists::{Numbered, push_list};

@@ -5,8 +5,6 @@ mod buckets;
 mod clocks;
 mod orders;
 mod queues;
-#[cfg(test)]
-mod tests;
 mod timer_lists;
 mod timer_wheels;
 

@@ -9,8 +9,6 @@ mod inputs;
 mod loads;
 mod refusals;
 mod statuses;
-#[cfg(test)]
-mod tests;
 
 pub use calls::play_call;
 pub use commands::command;

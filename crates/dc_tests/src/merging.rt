@@ -1,9 +1,9 @@
 ghost use Rattle.std.specs.Prelude.{◌≡◌};
 
-use crate::{Logged, merge};
 use dc_base::actions::Actor;
 use dc_base::entries::{Entry, What};
 use dc_base::numbers::{CoreNo, Ticket};
+use dc_journal::{Logged, merge};
 use std::test::Fail;
 
 /// A core stops, and puts as many blocks to rest.

@@ -1,6 +1,3 @@
-mod merging;
-
-use crate::{entry_line, read_journal, report_line};
 use dc_base::actions::Actor;
 use dc_base::calls::{End, Op};
 use dc_base::commands::{Order, Refusal};
@@ -10,6 +7,7 @@ use dc_base::interrupts::{Latched, Raised};
 use dc_base::kernels::Version;
 use dc_base::numbers::{BlockNo, CoreNo, DispNo, LineNo, SignalNo, Ticket};
 use dc_base::reports::ReportLine;
+use dc_journal::{entry_line, read_journal, report_line};
 use std::test::Fail;
 
 #[test]

@@ -1,6 +1,6 @@
-use crate::{command, gen_call, play_call};
 use dc_base::lists::Items;
 use dc_io::{MemFile, MemShelf, MemSink, Open};
+use dc_top::{command, gen_call, play_call};
 use std::alloc::{AllocError, Global};
 use std::process::Abort;
 use std::test::Fail;

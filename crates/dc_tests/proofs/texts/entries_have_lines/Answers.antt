@@ -1,6 +1,6 @@
 use Rattle.std.proofs.Common.{refl}
 use Rattle.dc_base.specs.EntryRanges.{has_line}
-use Rattle.dc_journal.proofs.tests.entries_have_lines.Goals as goal
+use Rattle.dc_tests.proofs.texts.entries_have_lines.Goals as goal
 
 pub entry_line-requires : goal.entry_line-requires
 unfolding has_line
