@@ -13,4 +13,3 @@ pub use ends::{Ahead, AheadEnd};
 pub use slices::{ahead, apply};
 pub use steps::{Went, plain};
 pub use windows::Window;
-

@@ -17,4 +17,3 @@ pub use dc_base::faults::{AsmFault, AsmKind};
 pub use dc_base::instructions::Instr;
 pub use dispatchers::Dispatcher;
 pub use words::{decode, encode, is_proper};
-
