@@ -1,4 +1,3 @@
 pub mod Numbers
 pub mod After
-pub mod Starts
 pub mod Room

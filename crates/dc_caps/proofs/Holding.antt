@@ -8,12 +8,12 @@ use Rattle.std.proofs.lemmas.List.Sums.{fold-append}
 use Rattle.std.proofs.lemmas.Option.{slice_get-get_or}
 use Rattle.dc_mdb.proofs.Elements.{map_there}
 use Rattle.std.proofs.lemmas.Bool.Decides.{nat_tests}
-use Rattle.std.proofs.lemmas.Bool.{or_right}
+use Rattle.std.proofs.lemmas.Bool.{or_parts, or_right}
 use Rattle.dc_base.specs.declared.capabilities.Cap.{Cap}
 use Rattle.dc_base.specs.Words.{Each, is_number}
 use Rattle.dc_base.proofs.EachLaws.{each_first, each_rest}
 use Rattle.dc_base.specs.Capabilities.{Seat, is_memory_within, has_child_within, is_of_line, slots_of_line, without_line, after_delete}
-use Rattle.dc_mdb.specs.Forests.{Node, node_at, parent_at, parent_in, without_slot, IsForest}
+use Rattle.dc_mdb.specs.Forests.{Node, node_at, parent_at, parent_in, is_parent, without_slot, IsForest}
 use Rattle.dc_mdb.proofs.Nodes.{there_used, used_node, node_found}
 use Rattle.dc_caps.specs.Seats.{no_cap, seat_of, seats_of, line_slots, child_within}
 use Rattle.dc_caps.specs.Tables.{IsWithin}
@@ -62,6 +62,14 @@ module _ (caps : List Cap) where
 
     pub no_child : IsForest nodes → ((k : ℕ) → k < 256 → child_within caps nodes slot first words k ≡ false) → has_child_within (seats_of caps nodes) slot first words ≡ false
     no_child f none = none_any meets_here nodes (λ i n e. (test_of n n.0 (found_node nodes f i n e) refl ∙ none n.0 (f.below i n e)))
+
+    no_parent_here : (ns : List Node) → is_parent ns slot ≡ false → has_child_within (seats_of caps ns) slot first words ≡ false
+    no_parent_here [] h = refl
+    no_parent_here (n ∷ ns) h = let w = or_parts (is_number slot n.1) (is_parent ns slot) h in
+        ap (λ t. (t && is_memory_within first words (slice_index_or caps n.0 no_cap).kind) || has_child_within (seats_of caps ns) slot first words) w.0 ∙ no_parent_here ns w.1
+
+    pub no_parent : is_parent nodes slot ≡ false → has_child_within (seats_of caps nodes) slot first words ≡ false
+    no_parent h = no_parent_here nodes h
 
     left_true : (a b : Bool) → (a && b) ≡ true → a ≡ true
     left_true true b h = refl

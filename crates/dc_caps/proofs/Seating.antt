@@ -35,9 +35,6 @@ module _ (caps : List Cap) where
       by_node None = refl
       by_node (Some n) = refl
 
-  cap_of : Option Seat → Option Cap
-  cap_of o = option_map (λ (h : Seat). h.cap) o
-
   pub cap_seats : (nodes : List Node) (s : ℕ) → cap_at (seats_of caps nodes) s ≡ (if has_slot nodes s then Some (slice_index_or caps s no_cap) else None)
   cap_seats [] s = refl
   cap_seats (n ∷ ns) s = by_test (n.0 == s) refl (cap_seats ns s)

@@ -27,7 +27,7 @@ fn is_child_within(forest: &Forest, caps: &[Cap], slot: u32, s: u32, first: u32,
     }
 }
 
-/// Whether a child of the slot is memory that meets the `words` words from `first` on.
+/// Whether a child of the slot is memory that meets the `words` words from `first` on. Only where it has a child is each slot looked at.
 pub(crate) fn has_child_within(
     forest: &Forest,
     caps: &[Cap],
@@ -35,11 +35,15 @@ pub(crate) fn has_child_within(
     first: u32,
     words: u32,
 ) -> bool
+    requires slot { slot < 256 }
     requires length { length caps.now ≡ 256 }
     requires caps { Each caps.now (λ i cap. IsCap cap) }
     requires range { first + words ≤ 4096 }
     ensures { result ≡ has_child_within (seats_of caps.now forest.now) slot first words }
 {
+    if !forest.has_children(slot) {
+        return false;
+    }
     for s in 0..256 {
         if is_child_within(forest, caps, slot, s, first, words) {
             return true;

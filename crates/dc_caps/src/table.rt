@@ -15,6 +15,7 @@ use crate::kinds::{
     WRITE, cap_in, is_kept_from, is_outside, is_without, masked, memory, slot_number,
 };
 use dc_base::capabilities::{Cap, CapKind};
+use dc_base::limits::BLOCK_SLOTS;
 use dc_base::numbers::{DispNo, LineNo, PortNo, SlotNo};
 use dc_mdb::{Forest, ForestFault};
 use std::marker::Model;
@@ -29,7 +30,7 @@ const UNUSED: Cap = Cap {
 /// and as memory at least one word and all within the 4,096. Contracts see the set of used slots, ascending by slot, and the number of dispatchers.
 #[derive(Debug, Drop)]
 pub struct Table {
-    caps: [Cap; 256],
+    caps: [Cap; BLOCK_SLOTS],
     forest: Forest,
     disps: u32,
 }
@@ -54,7 +55,7 @@ impl Table {
         ensures { result ≡ record { set = []; disps = disps } }
     {
         Table {
-            caps: [UNUSED; 256],
+            caps: [UNUSED; BLOCK_SLOTS],
             forest: Forest::new(),
             disps,
         }

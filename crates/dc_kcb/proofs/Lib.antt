@@ -3,4 +3,3 @@ mod EmptySlots
 mod FirstParts
 mod Growing
 mod Seatings
-mod SmallBlock

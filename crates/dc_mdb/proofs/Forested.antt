@@ -26,18 +26,18 @@ from_rooted links w r = record { ascending = links_ascend links; below = links_b
 along : (links : List Link) (nodes : List Node) → Whole links → nodes_of links ≡ nodes → IsRooted nodes → IsForest (nodes_of links)
 along links nodes w e r = from_rooted links w (subst IsRooted (sym e) r)
 
-module _ (links : List Link) (f : IsForest (nodes_of links)) (s : ℕ) (within : s < length links) where
-  unused : has_slot (nodes_of links) s ≡ false → is_there (slice_index_or links s Absent) ≡ false
-  unused h = sym (has_slot_links links s) ∙ h
+pub unused : (links : List Link) (s : ℕ) → has_slot (nodes_of links) s ≡ false → is_there (slice_index_or links s Absent) ≡ false
+unused links s h = sym (has_slot_links links s) ∙ h
 
+module _ (links : List Link) (f : IsForest (nodes_of links)) (s : ℕ) (within : s < length links) where
   pub root_is_put : has_slot (nodes_of links) s ≡ false → nodes_of (slice_set links s Root) ≡ with_node (s, None) (nodes_of links)
-  root_is_put h = links_with_root links s within (unused h)
+  root_is_put h = links_with_root links s within (unused links s h)
 
   pub root_forest : has_slot (nodes_of links) s ≡ false → Whole (slice_set links s Root) → IsForest (nodes_of (slice_set links s Root))
   root_forest h w = along (slice_set links s Root) (with_node (s, None) (nodes_of links)) w (root_is_put h) (put_rooted (nodes_of links) (rooted_of (nodes_of links) f) (s, None) h tt)
 
   pub child_is_put : (p : ℕ) → has_slot (nodes_of links) s ≡ false → nodes_of (slice_set links s (Child p)) ≡ with_node (s, Some p) (nodes_of links)
-  child_is_put p h = links_with_child links s p within (unused h)
+  child_is_put p h = links_with_child links s p within (unused links s h)
 
   pub child_forest : (p : ℕ) → has_slot (nodes_of links) s ≡ false → has_slot (nodes_of links) p ≡ true → Whole (slice_set links s (Child p)) → IsForest (nodes_of (slice_set links s (Child p)))
   child_forest p h u w = along (slice_set links s (Child p)) (with_node (s, Some p) (nodes_of links)) w (child_is_put p h) (put_rooted (nodes_of links) (rooted_of (nodes_of links) f) (s, Some p) h u)

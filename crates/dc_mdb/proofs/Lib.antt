@@ -10,3 +10,6 @@ pub mod Descending
 pub mod Clearing
 pub mod Slots
 pub mod Forested
+pub mod Counting
+pub mod Counted
+pub mod Childless

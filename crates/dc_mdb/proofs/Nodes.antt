@@ -50,14 +50,6 @@ module _ (h : Node) where
   each_put P [] p all = each_cons (λ i. P) h [] p all
   each_put P (k ∷ ks) p all = put_by k ks P p all (each_put P ks p (λ i a e. all (suc i) a e)) (nat_lt h.0 k.0)
 
-  pub in_put : (nodes : List Node) → In (with_node h nodes) h
-  in_put [] = (0, refl)
-  in_put (k ∷ ks) = by_test (nat_lt h.0 k.0) (in_put ks)
-    where
-      by_test : (t : Bool) → In (with_node h ks) h → In (if t then h ∷ k ∷ ks else k ∷ with_node h ks) h
-      by_test true w = (0, refl)
-      by_test false w = in_later k (with_node h ks) h w
-
   pub still_in : (nodes : List Node) (g : Node) (i : ℕ) → slice_get nodes i ≡ Some g → In (with_node h nodes) g
   still_in [] g i e = absurd cc
   still_in (k ∷ ks) g zero e = by_test (nat_lt h.0 k.0)

@@ -20,7 +20,7 @@ count_more a r q h = by_tests (nat_lt a r) (nat_lt a q) refl refl
     by_tests true true e f = omega arith
     by_tests true false e f = absurd (let l : a < r = grind (arith, nat_tests, e) in let m : q ≤ a = grind (arith, nat_tests, f) in omega (arith, l, m, h))
 
-count_most : (t : Bool) → count_of t ≤ 1
+pub count_most : (t : Bool) → count_of t ≤ 1
 count_most true = omega arith
 count_most false = omega arith
 

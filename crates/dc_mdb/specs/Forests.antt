@@ -1,6 +1,7 @@
 -- A derivation forest: slots and their parents, ascending by slot.
 use Rattle.std.specs.Prelude.{◌≡◌, ℕ, zero, suc, ◌<◌, nat_lt, List, [], ◌∷◌, Bool, true, false, ◌==◌, ◌||◌, not, Option, Some, None, IfSome, if◌then◌else◌}
 use Rattle.std.specs.Prelude.{map, filter, find, length, is_some, slice_get}
+use Rattle.std.specs.List.{list_any}
 use Rattle.dc_base.specs.Words.{Each, is_number}
 
 -- a slot, and its parent if it has one
@@ -21,6 +22,10 @@ parent_in (Some n) = n.1
 -- the parent of a slot, if it has one
 abbrev pub parent_at : List Node → ℕ → Option ℕ
 parent_at nodes s = parent_in (node_at nodes s)
+
+-- whether the slot has a child
+abbrev pub is_parent : List Node → ℕ → Bool
+is_parent nodes s = list_any (λ (n : Node). is_number s n.1) nodes
 
 -- one slot more
 abbrev pub with_node : Node → List Node → List Node

@@ -1,2 +1,4 @@
+pub mod Counts
 pub mod Forests
 pub mod Links
+pub mod Within

@@ -1,10 +1,11 @@
 //! The forest.
 
 ghost use Rattle.std.specs.Prelude.{◌≡◌, ◌<◌, ◌↔◌, [], Some, None, Err, length, map, OnOk, OnErr, IsErrOf, IsTrue, IsFalse, ◌&&◌};
-ghost use Rattle.dc_mdb.specs.Forests.{IsForest, has_slot, parent_at, with_node, descendants, without_descendants, without_slot, Node as Pair};
+ghost use Rattle.dc_mdb.specs.Forests.{IsForest, has_slot, parent_at, is_parent, with_node, descendants, without_descendants, without_slot, Node as Pair};
 
-use crate::links::{Link, all_below, all_slots, clear, hang, link_at, parent_of};
+use crate::links::{Link, all_below, all_slots, clear, cut, hang, link_at, parent_of};
 use arrayvec::ArrayVec;
+use dc_base::limits::BLOCK_SLOTS;
 use std::marker::Model;
 
 /// Why a slot is not put in or taken out: it is not there, or it is there already.
@@ -17,19 +18,22 @@ pub enum ForestFault {
 /// Slots below 256, each a root or the child of another. Contracts see the list of the slots with their parents, ascending by slot.
 #[derive(Debug, Drop)]
 pub struct Forest {
-    links: [Link; 256],
+    links: [Link; BLOCK_SLOTS],
+    /// How many children each slot has, so that what has none is not searched for.
+    children: [u16; BLOCK_SLOTS],
 }
 
 impl Model for Forest {
     ghost use Rattle.std.specs.Prelude.{List};
-    ghost use Rattle.dc_mdb.specs.Forests.{Node, IsForest};
+    ghost use Rattle.dc_mdb.specs.Forests.{Node};
     ghost use Rattle.dc_mdb.specs.Links.{nodes_of};
+    ghost use Rattle.dc_mdb.specs.Within.{IsWithin};
 
     ghost Value = { List Node };
 
     ghost view = { λ f. nodes_of f.links };
 
-    ghost invariant = { λ f. IsForest (nodes_of f.links) };
+    ghost invariant = { IsWithin };
 }
 
 impl Forest {
@@ -38,7 +42,8 @@ impl Forest {
         ensures { result ≡ [] }
     {
         Forest {
-            links: [Link::Absent; 256],
+            links: [Link::Absent; BLOCK_SLOTS],
+            children: [0; BLOCK_SLOTS],
         }
     }
 
@@ -61,8 +66,17 @@ impl Forest {
         parent_of(&self.links, s)
     }
 
+    /// Whether the slot has a child.
+    pub fn has_children(&self, s: u32) -> bool
+        requires { s < 256 }
+        ensures value { result ≡ is_parent self.now s }
+        ensures forest { IsForest self.now }
+    {
+        self.children[s as usize] > 0
+    }
+
     /// All slots that are there, ascending.
-    pub fn slots(&self) -> ArrayVec<u32, 256>
+    pub fn slots(&self) -> ArrayVec<u32, BLOCK_SLOTS>
         ensures slots { result.items ≡ map (λ (n : Pair). n.0) self.now }
         ensures forest { IsForest self.now }
     {
@@ -71,7 +85,7 @@ impl Forest {
 
     /// All slots that reach `s` by one or more parents, ascending. This takes at most as many steps as the square of the used slots, besides one look at
     /// each slot.
-    pub fn descendants(&self, s: u32) -> ArrayVec<u32, 256>
+    pub fn descendants(&self, s: u32) -> ArrayVec<u32, BLOCK_SLOTS>
         requires { s < 256 }
         ensures { result.items ≡ descendants self.now s }
     {
@@ -108,7 +122,8 @@ impl Forest {
         if self.contains(s) {
             return Err(ForestFault::Used);
         }
-        self.links[s as usize] = Link::Child(parent);
+        self.links[s as usize] = Link::Child(parent as u8);
+        self.children[parent as usize] += 1;
         Ok(())
     }
 
@@ -123,9 +138,8 @@ impl Forest {
         if !self.contains(s) {
             return Err(ForestFault::Absent);
         }
-        let up = self.links[s as usize];
-        hang(&mut self.links, s, up);
-        self.links[s as usize] = Link::Absent;
+        hang(&mut self.links, &mut self.children, s);
+        cut(&mut self.links, &mut self.children, s);
         Ok(())
     }
 
@@ -136,8 +150,11 @@ impl Forest {
         ensures after { self.new ≡ without_descendants s self.old }
         ensures count { result ≡ length (descendants self.old s) }
     {
+        if !self.has_children(s) {
+            return 0;
+        }
         let below = all_below(&self.links, s);
-        clear(&mut self.links, below.as_slice());
+        clear(&mut self.links, &mut self.children, below.as_slice());
         below.len() as u32
     }
 }

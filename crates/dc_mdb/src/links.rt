@@ -1,18 +1,20 @@
 //! Where each slot hangs.
 
-ghost use Rattle.std.specs.Prelude.{◌≡◌, ◌<◌, map, not, filter, length, slice_index_or};
+ghost use Rattle.std.specs.Prelude.{◌≡◌, ◌<◌, ◌≤◌, map, not, filter, length, slice_index_or, slice_set};
 ghost use Rattle.dc_base.specs.Words.{Each, lists};
 ghost use Rattle.dc_mdb.specs.Forests.{IsForest, parent_at, reaches_in, descendants, Node};
 ghost use Rattle.dc_mdb.specs.Links.{nodes_of, with_link};
+ghost use Rattle.dc_mdb.specs.Counts.{IsCounted};
 
 use arrayvec::ArrayVec;
+use dc_base::limits::BLOCK_SLOTS;
 
-/// Where a slot hangs: nowhere, as a root, or under a parent.
+/// Where a slot hangs: nowhere, as a root, or under a parent, which is below 256.
 #[derive(Clone, Copy, Debug, PartialEq, Eq)]
 pub(crate) enum Link {
     Absent,
     Root,
-    Child(u32),
+    Child(u8),
 }
 
 impl Link {
@@ -31,7 +33,7 @@ impl Link {
         ensures { result ≡ with_link s up self }
     {
         match self {
-            Link::Child(parent) if parent == s => up,
+            Link::Child(parent) if u32::from(parent) == s => up,
             link => link,
         }
     }
@@ -41,7 +43,7 @@ impl Link {
         ensures { result ≡ link_parent self }
     {
         match self {
-            Link::Child(parent) => Some(parent),
+            Link::Child(parent) => Some(u32::from(parent)),
             Link::Absent | Link::Root => None,
         }
     }
@@ -82,7 +84,7 @@ fn is_below(links: &[Link], s: u32, parent: Option<u32>) -> bool
 }
 
 /// All slots that reach `s`, ascending. This takes at most as many steps as the square of the used slots, besides one look at each slot.
-pub(crate) fn all_below(links: &[Link], s: u32) -> ArrayVec<u32, 256>
+pub(crate) fn all_below(links: &[Link], s: u32) -> ArrayVec<u32, BLOCK_SLOTS>
     requires length { length links.now ≡ 256 }
     requires forest { IsForest (nodes_of links.now) }
     ensures { result.items ≡ descendants (nodes_of links.now) s }
@@ -97,7 +99,7 @@ pub(crate) fn all_below(links: &[Link], s: u32) -> ArrayVec<u32, 256>
 }
 
 /// All slots that are there, ascending.
-pub(crate) fn all_slots(links: &[Link]) -> ArrayVec<u32, 256>
+pub(crate) fn all_slots(links: &[Link]) -> ArrayVec<u32, BLOCK_SLOTS>
     requires { length links.now ≡ 256 }
     ensures { result.items ≡ map (λ (n : Node). n.0) (nodes_of links.now) }
 {
@@ -111,7 +113,7 @@ pub(crate) fn all_slots(links: &[Link]) -> ArrayVec<u32, 256>
 }
 
 /// Each child of `s` gets this link instead.
-pub(crate) fn hang(links: &mut [Link], s: u32, up: Link)
+fn relink(links: &mut [Link], s: u32, up: Link)
     ensures { links.new ≡ map (with_link s up) links.old }
 {
     for i in 0..links.len() {
@@ -119,12 +121,48 @@ pub(crate) fn hang(links: &mut [Link], s: u32, up: Link)
     }
 }
 
+/// Each child of `s` gets the link of `s` itself.
+pub(crate) fn hang(links: &mut [Link], children: &mut [u16], s: u32)
+    requires slot { s < length links.old }
+    requires most { length links.old ≤ 256 }
+    requires room { length children.old ≡ length links.old }
+    requires counted { IsCounted links.old children.old }
+    ensures links { links.new ≡ map (with_link s (slice_index_or links.old s Link.Absent)) links.old }
+    ensures counted { IsCounted links.new children.new }
+{
+    let count = children[s as usize];
+    if count == 0 {
+        return;
+    }
+    let up = links[s as usize];
+    relink(links, s, up);
+    children[s as usize] = 0;
+    if let Link::Child(parent) = up {
+        children[parent as usize] += count;
+    }
+}
+
+/// Takes a slot out.
+pub(crate) fn cut(links: &mut [Link], children: &mut [u16], s: u32)
+    requires slot { s < length links.old }
+    requires counted { IsCounted links.old children.old }
+    ensures links { links.new ≡ slice_set links.old s Link.Absent }
+    ensures counted { IsCounted links.new children.new }
+{
+    if let Link::Child(parent) = links[s as usize] {
+        children[parent as usize] -= 1;
+    }
+    links[s as usize] = Link::Absent;
+}
+
 /// Takes these slots out.
-pub(crate) fn clear(links: &mut [Link], slots: &[u32])
-    requires { Each slots.now (λ i s. s < length links.old) }
-    ensures { nodes_of links.new ≡ filter (λ (n : Node). not (lists slots.now n.0)) (nodes_of links.old) }
+pub(crate) fn clear(links: &mut [Link], children: &mut [u16], slots: &[u32])
+    requires slots { Each slots.now (λ i s. s < length links.old) }
+    requires counted { IsCounted links.old children.old }
+    ensures links { nodes_of links.new ≡ filter (λ (n : Node). not (lists slots.now n.0)) (nodes_of links.old) }
+    ensures counted { IsCounted links.new children.new }
 {
     for &s in slots {
-        links[s as usize] = Link::Absent;
+        cut(links, children, s);
     }
 }

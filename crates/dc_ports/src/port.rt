@@ -2,6 +2,7 @@ ghost use Rattle.std.specs.Prelude.{◌≡◌, ◌<◌, ◌≤◌, ◌↔◌, []
 ghost use Rattle.dc_base.specs.Limits.{port_room};
 
 use arrayvec::ArrayVec;
+use dc_base::limits::PORT_ROOM;
 use dc_base::messages::Message;
 use std::marker::Model;
 
@@ -12,7 +13,7 @@ pub struct PortFull;
 /// The messages of a port, the first to be received first, at most 8.
 #[derive(Debug, Drop)]
 pub struct Port {
-    messages: ArrayVec<Message, 8>,
+    messages: ArrayVec<Message, PORT_ROOM>,
 }
 
 // Contracts see the list of the messages.

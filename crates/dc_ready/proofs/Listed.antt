@@ -47,15 +47,6 @@ below-without n (e ∷ es) r = by_test (below-without n es r.2) (e.0 == n) refl
     by_test less true q = less
     by_test less false q = let ne = eqb-false e.0 n q in let lt : e.0 < suc n = r.0 in (omega arith, lists-without e.0 n es r.1, less)
 
--- what went is not there
-pub lists_gone : (d : ℕ) (es : List (ℕ × ℕ)) → lists (dispatchers (without_disp d es)) d ≡ false
-lists_gone d [] = refl
-lists_gone d (e ∷ es) = by_test (lists_gone d es) (e.0 == d) refl
-  where
-    by_test : lists (dispatchers (without_disp d es)) d ≡ false → (b : Bool) → (e.0 == d) ≡ b → lists (dispatchers (cond (not b) (e ∷ without_disp d es) (without_disp d es))) d ≡ false
-    by_test gone true q = gone
-    by_test gone false q = or_from (e.0 == d) (lists (dispatchers (without_disp d es)) d) q gone
-
 pub without-absent : (d : ℕ) (es : List (ℕ × ℕ)) → lists (dispatchers es) d ≡ false → without_disp d es ≡ es
 without-absent d [] h = refl
 without-absent d (e ∷ es) h =
@@ -117,11 +108,6 @@ once-at n zero (y ∷ ys) x r e = (subst (λ (z : DispNo × ℕ). z.0.0 < n) (sa
 once-at n (suc i) (y ∷ ys) x r e =
     let more = once-at n i ys x r.2 e in
     (more.0, or_from (y.0.0 == x.0.0) (lists (dispatchers (entries_of (take i ys))) x.0.0) (flipped x.0.0 y.0.0 (absent-at y.0.0 i ys x r.1 e)) more.1)
-
-pub entries-take : (i : ℕ) (xs : List (DispNo × ℕ)) (x : DispNo × ℕ) → slice_get xs i ≡ Some x → entries_of (take (suc i) xs) ≡ entries_of (take i xs) ++ entry_of x ∷ []
-entries-take i [] x e = absurd (none-some x e)
-entries-take zero (y ∷ ys) x e = ap (λ (z : DispNo × ℕ). entry_of z ∷ []) (same_Some y x e)
-entries-take (suc i) (y ∷ ys) x e = ap (λ es. entry_of y ∷ es) (entries-take i ys x e)
 
 pub entries-push : (xs : List (DispNo × ℕ)) (x : DispNo × ℕ) → entries_of (xs ++ x ∷ []) ≡ entries_of xs ++ entry_of x ∷ []
 entries-push [] x = refl

@@ -3,6 +3,7 @@ use crate::heaps::{Candidate, put_leaf};
 use crate::lists::ReadyList;
 use arrayvec::ArrayVec;
 use dc_base::kernels::Version;
+use dc_base::limits::MOST_DISPS;
 use dc_base::numbers::DispNo;
 use std::marker::Model;
 
@@ -63,7 +64,7 @@ impl ReadyList for DueHeap {
         there
     }
 
-    fn to_list(&self) -> ArrayVec<(DispNo, u64), 16> {
+    fn to_list(&self) -> ArrayVec<(DispNo, u64), MOST_DISPS> {
         self.arrivals.to_list()
     }
 }

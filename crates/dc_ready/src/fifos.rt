@@ -3,13 +3,14 @@ ghost use Rattle.std.specs.Prelude.{◌≡◌};
 use crate::lists::ReadyList;
 use arrayvec::ArrayVec;
 use dc_base::kernels::Version;
+use dc_base::limits::MOST_DISPS;
 use dc_base::numbers::DispNo;
 use std::marker::Model;
 
 /// First in, first out: the first that arrived runs next, whatever its due.
 #[derive(Drop)]
 pub struct Fifo {
-    entries: ArrayVec<(DispNo, u64), 16>,
+    entries: ArrayVec<(DispNo, u64), MOST_DISPS>,
 }
 
 impl Model for Fifo {
@@ -24,7 +25,7 @@ impl Model for Fifo {
 }
 
 /// A copy of the entries.
-fn copied(entries: &ArrayVec<(DispNo, u64), 16>) -> ArrayVec<(DispNo, u64), 16>
+fn copied(entries: &ArrayVec<(DispNo, u64), MOST_DISPS>) -> ArrayVec<(DispNo, u64), MOST_DISPS>
     ensures { result.items ≡ entries.now.items }
 {
     let mut list = ArrayVec::new();
@@ -68,7 +69,7 @@ impl ReadyList for Fifo {
         self.entries.len() < before
     }
 
-    fn to_list(&self) -> ArrayVec<(DispNo, u64), 16> {
+    fn to_list(&self) -> ArrayVec<(DispNo, u64), MOST_DISPS> {
         copied(&self.entries)
     }
 }

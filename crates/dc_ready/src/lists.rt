@@ -8,6 +8,7 @@ ghost use Rattle.dc_ready.specs.Entries.{dispatchers, without_disp, entries_of, 
 
 use arrayvec::ArrayVec;
 use dc_base::kernels::Version;
+use dc_base::limits::MOST_DISPS;
 use dc_base::numbers::DispNo;
 
 /// The ready dispatchers of a block with their dues in the block's time, each once, in order of arrival. Their numbers are below 16, so there are at most 16.
@@ -41,12 +42,12 @@ pub trait ReadyList: Sized + Drop {
         ensures rest { listed self.new ≡ without_disp d.0 (listed self.old) };
 
     /// The list.
-    fn to_list(&self) -> ArrayVec<(DispNo, u64), 16>
+    fn to_list(&self) -> ArrayVec<(DispNo, u64), MOST_DISPS>
         ensures list { entries_of result.items ≡ listed self.now }
         ensures once { IsReadyList (entries_of result.items) };
 
     /// What `to_list` gave.
-    fn restore(list: &ArrayVec<(DispNo, u64), 16>) -> Self
+    fn restore(list: &ArrayVec<(DispNo, u64), MOST_DISPS>) -> Self
         requires { IsReadyList (entries_of list.now.items) }
         ensures { listed result ≡ entries_of list.now.items }
     {

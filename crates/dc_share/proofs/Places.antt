@@ -87,9 +87,6 @@ first_by is_runnable b bs t e = (λ h. ap (λ u. cond u (Some b) (find is_runnab
 pub runnable_here : (is_runnable : ℕ → Bool) (xs : List Member) (i : ℕ) (d : Member) → i < length xs → is_runnable (get_or xs i d).block ≡ true → find is_runnable (share_blocks (drop i xs)) ≡ Some (get_or xs i d).block
 runnable_here is_runnable xs i d h r = rw (drop_more xs i d h) ((first_by is_runnable (get_or xs i d).block (share_blocks (drop (i + 1) xs)) true r).0 refl)
 
-pub runnable_later : (is_runnable : ℕ → Bool) (xs : List Member) (i : ℕ) (d : Member) → i < length xs → is_runnable (get_or xs i d).block ≡ false → find is_runnable (share_blocks (drop i xs)) ≡ find is_runnable (share_blocks (drop (i + 1) xs))
-runnable_later is_runnable xs i d h r = rw (drop_more xs i d h) ((first_by is_runnable (get_or xs i d).block (share_blocks (drop (i + 1) xs)) false r).1 refl)
-
 pub none_left : (is_runnable : ℕ → Bool) (xs : List Member) (i : ℕ) → length xs ≤ i → find is_runnable (share_blocks (drop i xs)) ≡ None
 none_left is_runnable [] zero h = refl
 none_left is_runnable [] (suc i) h = refl

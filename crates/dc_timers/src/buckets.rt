@@ -9,12 +9,13 @@ ghost use Rattle.dc_timers.specs.Wheels.{bucket_of};
 use crate::orders::soonest_within;
 use arrayvec::ArrayVec;
 use dc_base::interrupts::Timer;
+use dc_base::limits::TIMER_ROOM;
 use std::marker::Model;
 
 /// Room for 64 timers, each in the bucket of its deadline modulo 64. Bucket b begins at the b-th start, and ends where the next begins.
 #[derive(Drop)]
 pub(crate) struct Buckets {
-    room: ArrayVec<Timer, 64>,
+    room: ArrayVec<Timer, TIMER_ROOM>,
     starts: [u8; 65],
 }
 

@@ -6,6 +6,7 @@ ghost use Rattle.dc_timers.specs.Numbers.{by_number, without_fired, AreNumbered}
 
 use arrayvec::ArrayVec;
 use dc_base::interrupts::Timer;
+use dc_base::limits::TIMER_ROOM;
 use dc_base::numbers::SignalNo;
 
 /// 64 timers are armed.
@@ -24,7 +25,7 @@ pub trait TimerQueue: Sized + Drop {
         ensures first { next result ≡ 0 };
 
     /// The next number, and the timers, whose numbers differ and are below it.
-    fn restore(number: u32, timers: &ArrayVec<Timer, 64>) -> Self
+    fn restore(number: u32, timers: &ArrayVec<Timer, TIMER_ROOM>) -> Self
         requires { AreNumbered number timers.now.items }
         ensures timers { armed result ≡ by_number timers.now.items }
         ensures next { next result ≡ number };
@@ -63,7 +64,7 @@ pub trait TimerQueue: Sized + Drop {
         ensures { result ≡ next self.now };
 
     /// The timers by (deadline, number).
-    fn to_list(&self) -> ArrayVec<Timer, 64>
+    fn to_list(&self) -> ArrayVec<Timer, TIMER_ROOM>
         ensures order { result.items ≡ in_order (armed self.now) }
         ensures all { by_number result.items ≡ armed self.now }
         ensures numbered { AreNumbered (next self.now) result.items };

@@ -2,13 +2,14 @@ use crate::orders::{in_order, put};
 use crate::queues::{TimerQueue, TimersFull};
 use arrayvec::ArrayVec;
 use dc_base::interrupts::Timer;
+use dc_base::limits::TIMER_ROOM;
 use dc_base::numbers::SignalNo;
 use std::marker::Model;
 
 /// The armed timers in one list by (deadline, number).
 #[derive(Drop)]
 pub struct TimerList {
-    timers: ArrayVec<Timer, 64>,
+    timers: ArrayVec<Timer, TIMER_ROOM>,
     next: u32,
 }
 
@@ -37,7 +38,7 @@ impl TimerQueue for TimerList {
         }
     }
 
-    fn restore(number: u32, timers: &ArrayVec<Timer, 64>) -> TimerList {
+    fn restore(number: u32, timers: &ArrayVec<Timer, TIMER_ROOM>) -> TimerList {
         TimerList {
             timers: in_order(timers.as_slice()),
             next: number,
@@ -78,7 +79,7 @@ impl TimerQueue for TimerList {
         self.next
     }
 
-    fn to_list(&self) -> ArrayVec<Timer, 64> {
+    fn to_list(&self) -> ArrayVec<Timer, TIMER_ROOM> {
         in_order(self.timers.as_slice())
     }
 }

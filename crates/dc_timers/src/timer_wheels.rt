@@ -7,6 +7,7 @@ use crate::orders::{in_order, least_deadline};
 use crate::queues::{TimerQueue, TimersFull};
 use arrayvec::ArrayVec;
 use dc_base::interrupts::Timer;
+use dc_base::limits::TIMER_ROOM;
 use dc_base::numbers::SignalNo;
 use std::marker::Model;
 
@@ -67,7 +68,7 @@ impl TimerQueue for TimerWheel {
         }
     }
 
-    fn restore(number: u32, timers: &ArrayVec<Timer, 64>) -> TimerWheel {
+    fn restore(number: u32, timers: &ArrayVec<Timer, TIMER_ROOM>) -> TimerWheel {
         let buckets = in_buckets(timers.as_slice());
         let earliest = least_deadline(buckets.as_slice());
         TimerWheel {
@@ -114,7 +115,7 @@ impl TimerQueue for TimerWheel {
         self.next
     }
 
-    fn to_list(&self) -> ArrayVec<Timer, 64> {
+    fn to_list(&self) -> ArrayVec<Timer, TIMER_ROOM> {
         in_order(self.buckets.as_slice())
     }
 }
