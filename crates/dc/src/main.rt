@@ -5,7 +5,7 @@ use dc_io::{FileShelf, Open, OutSink};
 use dc_top::command;
 use std::alloc::Global;
 use std::env;
-use std::io::{self, ErrorKind};
+use std::io::{self, ErrorKind, IsTerminal};
 use std::process::ExitCode;
 
 // The status for want of memory.
@@ -27,6 +27,10 @@ fn main(rt: HostRuntime) -> ExitCode {
         Err(_) => return ExitCode::from(NO_MEMORY),
     };
     let mut shelf = FileShelf::new(rt);
-    let mut sink = OutSink::new(rt.stdout());
+    // With a terminal, lines appear as they come.
+    let lines_at_once = rt.stdout().is_terminal();
+    let Ok(mut sink) = OutSink::new(alloc, rt.stdout(), lines_at_once) else {
+        return ExitCode::from(NO_MEMORY);
+    };
     ExitCode::from(command(alloc, words.as_slice(), &mut shelf, &mut sink, &Open))
 }

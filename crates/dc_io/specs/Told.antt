@@ -11,3 +11,7 @@ pub record AddsPrefix (old new : Option (List ℕ)) (bytes : List ℕ) : Type 0 
   pub rest : List ℕ
   pub whole : bytes ≡ part ++ rest
   pub adds : Adds old new part
+
+-- of the bytes told a beginning stayed, where they are told
+pub record KeepsBeginning (old new : Option (List ℕ)) : Type 0 where
+  pub stayed : (told : List ℕ) → old ≡ Some told → (part : List ℕ) × (lost : List ℕ) × (told ≡ part ++ lost) × (new ≡ Some part)

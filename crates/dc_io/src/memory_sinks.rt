@@ -1,4 +1,4 @@
-ghost use Rattle.std.specs.Prelude.{◌≡◌, ◌+◌, ◌<◌, ◌≤◌, [], length, take, Some, None, Ok, IfOk, OnErr, IsErr, ◌↔◌, IsTrue};
+ghost use Rattle.std.specs.Prelude.{◌≡◌, ◌+◌, ◌<◌, ◌≤◌, [], length, take, Bool, false, Some, None, Ok, IfOk, OnErr, IsOk, IsErr, ◌↔◌, IsTrue};
 ghost use Rattle.dc_io.specs.Counts.{Rose};
 ghost use Rattle.dc_io.specs.Told.{Adds};
 
@@ -60,6 +60,10 @@ impl Sink for MemSink {
 
     ghost told = { λ s. Some s.taken };
 
+    ghost unwritten = { λ _. [] };
+
+    ghost holds_back = { false };
+
     fn put(&mut self, piece: &[u8]) -> Result<usize, Failed>
         ensures failed_where { IsErr result ↔ IsTrue (put_fails self.old piece.now) }
         ensures whole { IfOk result (λ n. n ≡ length piece.now) }
@@ -78,6 +82,13 @@ impl Sink for MemSink {
             Err(_) => unreachable!(),
         }
     }
+
+    fn finish(&mut self) -> Result<(), Failed>
+        ensures done { IsOk result }
+        ensures same { self.new ≡ self.old }
+    {
+        Ok(())
+    }
 }
 
 /// Takes each piece whole, keeps no byte and tells none. No put fails.
@@ -95,9 +106,19 @@ impl Sink for SteadySink {
 
     ghost told = { λ _. None };
 
+    ghost unwritten = { λ _. [] };
+
+    ghost holds_back = { false };
+
     fn put(&mut self, piece: &[u8]) -> Result<usize, Failed>
         ensures { result ≡ Ok (length piece.now) }
     {
         Ok(piece.len())
+    }
+
+    fn finish(&mut self) -> Result<(), Failed>
+        ensures { IsOk result }
+    {
+        Ok(())
     }
 }

@@ -1,6 +1,6 @@
-ghost use Rattle.std.specs.Prelude.{◌≡◌, ℕ, ◌<◌, ◌≤◌, List, [], length, take, Option, IfOk, OnOk, OnErr};
+ghost use Rattle.std.specs.Prelude.{◌≡◌, ℕ, ◌<◌, ◌≤◌, List, [], length, take, Bool, Option, IsTrue, IfOk, OnOk, OnErr};
 ghost use Rattle.dc_io.specs.Counts.{Rose};
-ghost use Rattle.dc_io.specs.Told.{Adds, AddsPrefix};
+ghost use Rattle.dc_io.specs.Told.{Adds, AddsPrefix, KeepsBeginning};
 ghost use Rattle.dc_io.specs.declared.sinks.Ended.TheVariants.{Sink, Memory};
 
 use std::alloc::AllocError;
@@ -34,10 +34,14 @@ impl From<AllocError> for Ended {
 
 /// What takes bytes.
 pub trait Sink {
-    // how many puts failed
+    // how often bytes could not be put or written out
     ghost faults: { Self → ℕ };
     // the bytes taken so far, where they are told
     ghost told: { Self → Option (List ℕ) };
+    // those of them that are still to be written out
+    ghost unwritten: { Self → List ℕ };
+    // whether it holds bytes back at all
+    ghost holds_back: { Bool };
 
     /// Takes bytes from the front of the piece, and says how many: one at least, where there is one.
     fn put(&mut self, piece: &[u8]) -> Result<usize, Failed>
@@ -46,6 +50,15 @@ pub trait Sink {
         ensures taken { IfOk result (λ n. Adds (told self.old) (told self.new) (take n piece.now)) }
         ensures nothing { OnErr result (Adds (told self.old) (told self.new) []) }
         ensures failed { OnErr result (Rose (faults self.old) (faults self.new)) }
+        ensures grows { faults self.old ≤ faults self.new };
+
+    /// Writes out what is held back. Where that fails, an end of it is lost, and the sink goes on behind what is left.
+    fn finish(&mut self) -> Result<(), Failed>
+        ensures kept { OnOk result (Adds (told self.old) (told self.new) []) }
+        ensures lost { OnErr result (KeepsBeginning (told self.old) (told self.new)) }
+        ensures holds_back { OnErr result (IsTrue holds_back) }
+        ensures failed { OnErr result (Rose (faults self.old) (faults self.new)) }
+        ensures written_out { unwritten self.new ≡ [] }
         ensures grows { faults self.old ≤ faults self.new };
 }
 

@@ -75,6 +75,10 @@ fn a_sink_in_memory_fails_where_listed_or_short_of_room(rt: HostRuntime) -> Resu
     Ok(())
 }
 
+fn output<W: Write + Drop>(alloc: Global, out: W, lines_at_once: bool) -> Result<OutSink<W>, Fail> {
+    Ok(OutSink::new(alloc, out, lines_at_once).map_err(|_| "no memory")?)
+}
+
 #[test]
 fn a_written_file_is_read_back(rt: HostRuntime) -> Result<(), Fail> {
     let alloc = rt.alloc();
@@ -82,9 +86,10 @@ fn a_written_file_is_read_back(rt: HostRuntime) -> Result<(), Fail> {
     let dir = env::temp_dir(&rt)?;
     let dir = dir.as_path().to_str().ok_or("a path that is no text")?;
     let path = format!(in alloc; "{dir}/dc_io_{id}")?;
-    let mut sink = OutSink::new(File::create(&rt, path.as_str())?);
+    let mut sink = output(alloc, File::create(&rt, path.as_str())?, false)?;
     assert_eq!(rt; put_all(&mut sink, b"start 0 rr\n"), Ok(()));
     assert_eq!(rt; put_all(&mut sink, b"stop 0\n"), Ok(()));
+    assert_eq!(rt; sink.finish(), Ok(()));
     let mut shelf = FileShelf::new(rt);
     check_load(
         &rt,
@@ -111,9 +116,12 @@ fn a_written_file_is_read_back(rt: HostRuntime) -> Result<(), Fail> {
 fn devices_are_full_endless_or_no_files(rt: HostRuntime) -> Result<(), Fail> {
     let alloc = rt.alloc();
     let full = File::options().write(true).open(&rt, "/dev/full")?;
-    let mut sink = OutSink::new(full);
-    assert_eq!(rt; put_all(&mut sink, b"lost\n"), Err(Failed));
-    assert_eq!(rt; sink.faults(), 1);
+    let mut sink = output(alloc, full, false)?;
+    assert_eq!(rt; put_all(&mut sink, b"lost\n"), Ok(()));
+    assert_eq!(rt; sink.finish(), Err(Failed));
+    assert_eq!(rt; sink.finish(), Ok(()));
+    assert_eq!(rt; put_all(&mut sink, &[b'a'; 65_537]), Err(Failed));
+    assert_eq!(rt; sink.faults(), 2);
     let mut shelf = FileShelf::new(rt);
     check_load(&rt, alloc, &mut shelf, "/dev/zero", Err(Load::TooLong), b"")?;
     assert_eq!(rt; shelf.faults(), 0);
@@ -178,18 +186,35 @@ fn write_lines<S: Sink, G: Gate>(sink: &mut S, gate: &G) -> Result<(), Ended> {
     Ok(())
 }
 
-#[test]
-fn a_write_that_fails_in_mid_stream_leaves_a_part(rt: HostRuntime) -> Result<(), Fail> {
-    let mut taken = Vec::new(rt.alloc());
-    let mut sink = OutSink::new(BreakingWriter {
+// What a text leaves with a writer that breaks, and what the last call answers.
+fn check_breaking(
+    rt: &impl Abort,
+    alloc: Global,
+    lines_at_once: bool,
+    put: Result<(), Ended>,
+    finished: Result<(), Failed>,
+) -> Result<(), Fail> {
+    let mut taken = Vec::new(alloc);
+    let writer = BreakingWriter {
         taken: &mut taken,
         writes: 0,
-    });
-    assert_eq!(rt; write_lines(&mut sink, &Open), Err(Ended::Sink));
+    };
+    let mut sink = output(alloc, writer, lines_at_once)?;
+    assert_eq!(rt; write_lines(&mut sink, &Open), put);
+    assert_eq!(rt; sink.finish(), finished);
     assert_eq!(rt; sink.faults(), 1);
     drop(sink);
     assert_eq!(rt; taken.as_slice(), b"repo".as_slice());
+    Ok(())
+}
+
+#[test]
+fn a_write_that_fails_in_mid_stream_leaves_a_part(rt: HostRuntime) -> Result<(), Fail> {
+    let alloc = rt.alloc();
+    check_breaking(&rt, alloc, false, Ok(()), Err(Failed))?;
+    check_breaking(&rt, alloc, true, Err(Ended::Sink), Ok(()))?;
     assert_eq!(rt; write_lines(&mut SteadySink::new(), &Open), Ok(()));
-    assert_eq!(rt; write_lines(&mut OutSink::new(rt.stdout()), &Open), Ok(()));
+    let mut shown = output(alloc, rt.stdout(), true)?;
+    assert_eq!(rt; write_lines(&mut shown, &Open), Ok(()));
     Ok(())
 }

@@ -1,7 +1,8 @@
 use dc_base::lists::Items;
-use dc_io::{MemFile, MemShelf, MemSink, Open};
+use dc_io::{MemFile, MemShelf, MemSink, Open, OutSink};
 use dc_top::{command, gen_call, play_call};
 use std::alloc::{AllocError, Global};
+use std::io::{self, Write};
 use std::process::Abort;
 use std::test::Fail;
 
@@ -260,7 +261,16 @@ fn each_load_that_fails_is_told_by_its_file(rt: HostRuntime) -> Result<(), Fail>
     Ok(())
 }
 
-// What these words, with a space between each two, are answered and what is written.
+// The words of a line, with a space between each two.
+fn words_of(alloc: Global, line: &str) -> Result<Vec<String>, AllocError> {
+    let mut words = Vec::new(alloc);
+    for word in line.split_whitespace() {
+        words.push(String::from_str(alloc, word)?)?;
+    }
+    Ok(words)
+}
+
+// What these words are answered and what is written.
 fn check_command(
     rt: &impl Abort,
     alloc: Global,
@@ -269,10 +279,7 @@ fn check_command(
     text: &str,
 ) -> Result<(), Fail> {
     let image = format!(in alloc; "{BARE}{HELLO}")?;
-    let mut words = Vec::new(alloc);
-    for word in line.split_whitespace() {
-        words.push(String::from_str(alloc, word)?)?;
-    }
+    let words = words_of(alloc, line)?;
     let mut shelf = shelf(alloc, image.as_str(), "", THREE_STEPS, 9)?;
     let mut sink = sink(alloc, 99)?;
     assert_eq!(rt;
@@ -327,6 +334,70 @@ fn each_put_of_a_summary_that_fails_leaves_the_lines_before_it(
         let mut sink = sink(rt.alloc(), failing)?;
         assert_eq!(&rt; gen_call(rt.alloc(), &mut sink, 1), 6, "put {failing}");
         assert_eq!(&rt; sink.bytes(), text.as_bytes(), "put {failing}");
+    }
+    Ok(())
+}
+
+// Takes as many bytes as it has room for, and none beyond.
+#[derive(Drop)]
+struct ShortWriter<'a> {
+    taken: &'a mut Vec<u8>,
+    room: usize,
+}
+
+impl Write for ShortWriter<'_> {
+    fn write(&mut self, buf: &[u8]) -> io::Result<usize> {
+        let n = buf.len().min(self.room);
+        self.room -= n;
+        self.taken.extend_from_slice(&buf[..n])?;
+        Ok(n)
+    }
+
+    fn flush(&mut self) -> io::Result<()> {
+        Ok(())
+    }
+}
+
+// What a play over a writer with this room is answered, and how much of the text the writer takes.
+fn check_written(
+    rt: &impl Abort,
+    alloc: Global,
+    lines_at_once: bool,
+    room: usize,
+    status: u8,
+) -> Result<(), Fail> {
+    let image = format!(in alloc; "{BARE}{HELLO}")?;
+    let words = words_of(alloc, "play image script schedule")?;
+    let mut shelf = shelf(alloc, image.as_str(), "", THREE_STEPS, 9)?;
+    let mut taken = Vec::new(alloc);
+    let out = ShortWriter {
+        taken: &mut taken,
+        room,
+    };
+    let mut sink = OutSink::new(alloc, out, lines_at_once).map_err(|_| "no memory")?;
+    assert_eq!(rt;
+        command(alloc, words.as_slice(), &mut shelf, &mut sink, &Open),
+        status,
+        "room {room}"
+    );
+    drop(sink);
+    let text = EXPECTED.as_bytes();
+    assert_eq!(rt;
+        taken.as_slice(),
+        &text[..room.min(text.len())],
+        "room {room}"
+    );
+    Ok(())
+}
+
+#[test]
+fn a_text_that_is_not_written_out_whole_is_a_write_fault(rt: HostRuntime) -> Result<(), Fail> {
+    let alloc = rt.alloc();
+    for lines_at_once in [false, true] {
+        check_written(&rt, alloc, lines_at_once, 4096, 0)?;
+        check_written(&rt, alloc, lines_at_once, 237, 6)?;
+        check_written(&rt, alloc, lines_at_once, 100, 6)?;
+        check_written(&rt, alloc, lines_at_once, 0, 6)?;
     }
     Ok(())
 }

@@ -17,12 +17,12 @@ use Rattle.dc_top.specs.Written.{WritesAs, whole, part, status_for, PlaysAs, who
 use Rattle.dc_io.specs.Counts.{Rose}
 use Rattle.dc_top.specs.declared.halts.Halt.{Halt}
 use Rattle.dc_top.specs.declared.halts.Halt.TheVariants as halt
-use Rattle.dc_top.specs.declared.refusals.Refusal.{Refusal}
-use Rattle.dc_top.specs.declared.refusals.Refusal.TheVariants as why
+use Rattle.dc_top.specs.declared.bad_inputs.BadInput.{BadInput}
+use Rattle.dc_top.specs.declared.bad_inputs.BadInput.TheVariants as why
 use Rattle.dc_top.specs.Contents.{Contents, Files, OfFiles}
 use Rattle.dc_top.specs.Calls.{Call, FaultOf, IsPlayStatus, PlayAnswers, verdict, read_fault, write_fault, both_faults, no_memory}
-use Rattle.dc_top.specs.Halts.{Halts, HaltTold, IsReady, verdict_of, name_of}
-use Rattle.dc_top.specs.Refusals.{Verdict, line_of, status_of}
+use Rattle.dc_top.specs.Halts.{Halts, HaltTold, IsReady, verdict_of}
+use Rattle.dc_top.specs.BadInputs.{Verdict, line_of, status_of}
 use Rattle.dc_base.specs.declared.actions.Actor.{Actor}
 use Rattle.dc_base.specs.declared.actions.Action.{Action}
 use Rattle.dc_top.specs.Verdict.{Inputs, bounds_of, done, either_verdict, schedule_read, play_verdict}
@@ -93,8 +93,8 @@ module _ (f g : ℕ) (a b : Option (List ℕ)) (text : List ℕ) where
   pub plays_listed : (result : ℕ) → PlaysAs f g a b text result → IsPlayStatus result
   plays_listed result w = elim (plays_status result w) [ inl is_0 ↦ inl is_0 | inr high ↦ inr (omega (arith, high.0), high.1) ]
 
--- a refusal has a status from 2 to 4
-status_of_file : (r : Refusal) → (1 < status_of r) × (status_of r ≤ 4)
+-- a file that is refused has a status from 2 to 4
+status_of_file : (r : BadInput) → (1 < status_of r) × (status_of r ≤ 4)
 status_of_file (why.Image f) = (omega arith, omega arith)
 status_of_file (why.Script f) = (omega arith, omega arith)
 status_of_file (why.Schedule f) = (omega arith, omega arith)
@@ -145,52 +145,52 @@ module _ (image script schedule : List ℕ) where
       followed files image script schedule (λ bytes. IsReady bytes.image bytes.script bytes.schedule i s a) (A call result) (λ bytes r. ready_answers call i s a result bytes w r) ready
 
   pub halt_answers : (files : Files) (call : Call) (h : Halt) (result : ℕ) → Halts files image script schedule call.shelf_faults call.shelf_faults_after h →
-      HaltTold h image script schedule call.sink_faults call.sink_faults_after call.told call.told_after result → OfFiles files image script schedule (λ bytes. PlayAnswers image script schedule bytes call result)
+      HaltTold h call.sink_faults call.sink_faults_after call.told call.told_after result → OfFiles files image script schedule (λ bytes. PlayAnswers image script schedule bytes call result)
   halt_answers files call (halt.Refused r) result e w =
       followed files image script schedule (λ bytes. play_verdict bytes.image bytes.script bytes.schedule ≡ verdict_of r) (A call result)
       (λ bytes same. verdict_answers image script schedule bytes call (verdict_of r) result same w) e
-  halt_answers files call (halt.Unread v) result e w =
-      followed files image script schedule (λ bytes. FaultOf image script schedule bytes (name_of v image script schedule)) (A call result)
-      (λ bytes fault. unread_answers image script schedule bytes call (name_of v image script schedule) result fault e.0 w) e.1
+  halt_answers files call (halt.Unread n) result e w =
+      followed files image script schedule (λ bytes. FaultOf image script schedule bytes n.now) (A call result)
+      (λ bytes fault. unread_answers image script schedule bytes call n.now result fault e.0 w) e.1
   halt_answers files call halt.Memory result e w =
       followed files image script schedule (λ bytes. Unit {0}) (A call result) (λ bytes u. subst (λ (n : ℕ). PlayAnswers image script schedule bytes call n) (sym w.0) (no_memory w.1))
       (any_files files image script schedule)
 
   module _ (files : Files) (before now f g : ℕ) (a b : Option (List ℕ)) where
-    pub halt_read_fault : (h : Halt) (result : ℕ) → Halts files image script schedule before now h → HaltTold h image script schedule f g a b result → result ≡ 5 → Rose before now
+    pub halt_read_fault : (h : Halt) (result : ℕ) → Halts files image script schedule before now h → HaltTold h f g a b result → result ≡ 5 → Rose before now
     halt_read_fault (halt.Refused r) result e w is_5 =
         let low = status_of_file r in
         elim (whole_or_6 f g a b (status_of r) (ended (line_of r)) result w) [ inl same ↦ absurd (omega (arith, same, is_5, low)) | inr other ↦ absurd (omega (arith, other.0, is_5)) ]
-    halt_read_fault (halt.Unread v) result e w is_5 = e.0
+    halt_read_fault (halt.Unread n) result e w is_5 = e.0
     halt_read_fault halt.Memory result e w is_5 = absurd (omega (arith, w.0, is_5))
 
-    pub halt_write_fault : (h : Halt) (result : ℕ) → HaltTold h image script schedule f g a b result → result ≡ 6 → Rose f g
+    pub halt_write_fault : (h : Halt) (result : ℕ) → HaltTold h f g a b result → result ≡ 6 → Rose f g
     halt_write_fault (halt.Refused r) result w is_6 =
         let low = status_of_file r in
         elim (whole_or_6 f g a b (status_of r) (ended (line_of r)) result w) [ inl same ↦ absurd (omega (arith, same, is_6, low)) | inr other ↦ other.1 ]
-    halt_write_fault (halt.Unread v) result w is_6 =
-        elim (whole_or_6 f g a b 5 (ended (read_fault_line (name_of v image script schedule))) result w) [ inl same ↦ absurd (omega (arith, same, is_6)) | inr other ↦ other.1 ]
+    halt_write_fault (halt.Unread n) result w is_6 =
+        elim (whole_or_6 f g a b 5 (ended (read_fault_line n.now)) result w) [ inl same ↦ absurd (omega (arith, same, is_6)) | inr other ↦ other.1 ]
     halt_write_fault halt.Memory result w is_6 = absurd (omega (arith, w.0, is_6))
 
-    pub halt_no_memory : (h : Halt) (result : ℕ) → HaltTold h image script schedule f g a b result → result ≡ 7 → b ≡ a
+    pub halt_no_memory : (h : Halt) (result : ℕ) → HaltTold h f g a b result → result ≡ 7 → b ≡ a
     halt_no_memory (halt.Refused r) result w is_7 =
         let low = status_of_file r in
         elim (whole_or_6 f g a b (status_of r) (ended (line_of r)) result w) [ inl same ↦ absurd (omega (arith, same, is_7, low)) | inr other ↦ absurd (omega (arith, other.0, is_7)) ]
-    halt_no_memory (halt.Unread v) result w is_7 =
-        elim (whole_or_6 f g a b 5 (ended (read_fault_line (name_of v image script schedule))) result w) [ inl same ↦ absurd (omega (arith, same, is_7)) | inr other ↦ absurd (omega (arith, other.0, is_7)) ]
+    halt_no_memory (halt.Unread n) result w is_7 =
+        elim (whole_or_6 f g a b 5 (ended (read_fault_line n.now)) result w) [ inl same ↦ absurd (omega (arith, same, is_7)) | inr other ↦ absurd (omega (arith, other.0, is_7)) ]
     halt_no_memory halt.Memory result w is_7 = w.1
 
     -- a halt has a status from 2 to 7
-    halt_status : (h : Halt) (result : ℕ) → HaltTold h image script schedule f g a b result → (1 < result) × (result ≤ 7)
+    halt_status : (h : Halt) (result : ℕ) → HaltTold h f g a b result → (1 < result) × (result ≤ 7)
     halt_status (halt.Refused r) result w =
         let low = status_of_file r in
         elim (whole_or_6 f g a b (status_of r) (ended (line_of r)) result w) [ inl same ↦ (omega (arith, same, low), omega (arith, same, low)) | inr other ↦ (omega (arith, other.0), omega (arith, other.0)) ]
-    halt_status (halt.Unread v) result w =
-        elim (whole_or_6 f g a b 5 (ended (read_fault_line (name_of v image script schedule))) result w) [ inl same ↦ (omega (arith, same), omega (arith, same)) | inr other ↦ (omega (arith, other.0), omega (arith, other.0)) ]
+    halt_status (halt.Unread n) result w =
+        elim (whole_or_6 f g a b 5 (ended (read_fault_line n.now)) result w) [ inl same ↦ (omega (arith, same), omega (arith, same)) | inr other ↦ (omega (arith, other.0), omega (arith, other.0)) ]
     halt_status halt.Memory result w = (omega (arith, w.0), omega (arith, w.0))
 
-    pub halt_listed : (h : Halt) (result : ℕ) → HaltTold h image script schedule f g a b result → IsPlayStatus result
+    pub halt_listed : (h : Halt) (result : ℕ) → HaltTold h f g a b result → IsPlayStatus result
     halt_listed h result w = inr (halt_status h result w)
 
-    pub halt_not_done : (h : Halt) (result : ℕ) → HaltTold h image script schedule f g a b result → result ≡ 0 → ⊥
+    pub halt_not_done : (h : Halt) (result : ℕ) → HaltTold h f g a b result → result ≡ 0 → ⊥
     halt_not_done h result w is_0 = let low = (halt_status h result w).0 in omega (arith, low, is_0)

@@ -1,129 +1,124 @@
--- The words of a command line, by their number and their first.
-use Rattle.std.proofs.Common.{◌≡◌, ◌⊎◌, ◌∙◌, ◌<◌, ◌≤◌, ℕ, List, [], ◌∷◌, map, Bool, true, false, length, refl, sym, ap, subst, inl, inr, Option, Some, None, arith}
-use Rattle.std.specs.Prelude.{MatchOption, if◌then◌else◌}
-use Rattle.std.specs.Option.{option_map}
-use Rattle.std.proofs.lemmas.List.{length-map}
+-- What a request is answered, once the sink has written out what it holds back.
+use Rattle.std.proofs.Common.{◌≡◌, ◌⊎◌, ◌∙◌, ◌≤◌, ℕ, List, [], ◌++◌, Bool, refl, sym, ap, subst, inl, inr, Option, Some, None, append-nil, arith}
+use Rattle.std.specs.Prelude.{IsTrue}
 use Rattle.dc_base.specs.PlayText.{gen_text}
-use Rattle.dc_base.specs.TextWords.{is_word}
-use Rattle.dc_io.specs.Told.{Adds}
-use Rattle.dc_top.specs.Contents.{Files, OfFiles}
-use Rattle.dc_top.specs.Calls.{Call, IsPlayStatus, PlayAnswers, TellsPlay, Wrote}
-use Rattle.dc_top.specs.Requests.{Request, play, gen, gen_number, request_of, CommandAnswers, HasStatusOf, RequestAnswers, RequestTold, UsageTold}
-use Rattle.dc_top.specs.Written.{PlaysAs, whole, part}
+use Rattle.dc_base.specs.TextWords.{ended}
+use Rattle.dc_io.specs.Counts.{Rose}
+use Rattle.dc_io.specs.Told.{Adds, AddsPrefix, KeepsBeginning}
+use Rattle.dc_io.proofs.Adding.{adds_and_none}
+use Rattle.dc_play.proofs.Rises.{rose_since}
+use Rattle.dc_top.specs.BadInputs.{usage}
+use Rattle.dc_top.specs.Contents.{Contents, Files}
+use Rattle.dc_top.specs.Calls.{Call, PlayAnswers, TellsPlay, Wrote, verdict, read_fault, write_fault, both_faults, no_memory}
+use Rattle.dc_top.specs.Finished.{WrittenOut, untouched, all_out, end_lost}
+use Rattle.dc_top.specs.Requests.{Request, play, gen, HasStatusOf, IsAnswered, LosesItsEnd, RequestTold}
+use Rattle.dc_top.specs.Written.{PlaysAs, WritesAs, whole, part, whole_text, part_of_text, no_text}
+use Rattle.dc_top.proofs.Answers.{followed}
 
--- what the words are answered by, by what they ask for
-abbrev Answered : Files → Call → ℕ → Option Request → Type 0
-Answered files call status r = MatchOption r (UsageTold call status) (λ request. RequestAnswers files call status request)
+pub usage_status : (f g : ℕ) (a b : Option (List ℕ)) (text : List ℕ) (status : ℕ) → WritesAs f g a b 1 text status → (status ≡ 1) ⊎ (status ≡ 6)
+usage_status f g a b text status (whole adds) = inl refl
+usage_status f g a b text status (part rose prefix) = inr refl
 
-answered : (words : List (List ℕ)) (files : Files) (call : Call) (status : ℕ) (r : Option Request) → request_of words ≡ r → Answered files call status r → CommandAnswers words files call status
-answered words files call status r e holds = subst (λ (x : Option Request). Answered files call status x) (sym e) holds
+-- what becomes of a status
+module _ (holds_back : Bool) (f g : ℕ) (a b : Option (List ℕ)) (status : ℕ) where
+  pub is_untouched : status ≡ 7 → g ≡ f → b ≡ a → WrittenOut holds_back f g a b status 7
+  is_untouched seven count same = untouched seven count same
 
-told : (words : List (List ℕ)) (files : Files) (before after : Option (List ℕ)) (r : Option Request) → request_of words ≡ r → RequestTold files before after r → RequestTold files before after (request_of words)
-told words files before after r e holds = subst (λ (x : Option Request). RequestTold files before after x) (sym e) holds
+  pub is_all_out : (status ≡ 7 → ⊥) → f ≤ g → Adds a b [] → WrittenOut holds_back f g a b status status
+  is_all_out other grew adds = all_out other grew adds
 
--- the statuses of what the words ask for
-listed : (words : List (List ℕ)) (status : ℕ) (r : Option Request) → request_of words ≡ r → HasStatusOf r status → HasStatusOf (request_of words) status
-listed words status r e holds = subst (λ (x : Option Request). HasStatusOf x status) (sym e) holds
+  pub is_end_lost : IsTrue holds_back → Rose f g → KeepsBeginning a b → WrittenOut holds_back f g a b status 6
+  is_end_lost holds rose begins = end_lost holds rose begins
 
-usage_status : (call : Call) (status : ℕ) → UsageTold call status → (status ≡ 1) ⊎ (status ≡ 6)
-usage_status call status (whole adds) = inl refl
-usage_status call status (part rose prefix) = inr refl
+rose_on : (f m g : ℕ) → Rose f m → m ≤ g → Rose f g
+rose_on f m g rose grew = omega (arith, rose, grew)
 
-none_listed : (words : List (List ℕ)) (call : Call) (status : ℕ) → request_of words ≡ None → UsageTold call status → HasStatusOf (request_of words) status
-none_listed words call status e holds = listed words status None e (usage_status call status holds)
+prefix_still : {a b c : Option (List ℕ)} {xs : List ℕ} → AddsPrefix a b xs → Adds b c [] → AddsPrefix a c xs
+prefix_still p still = record { part = p.part; rest = p.rest; whole = p.whole; adds = adds_and_none p.adds still }
 
-play_named : (form i s t : List ℕ) (b : Bool) → is_word "play" form ≡ b → request_of (form ∷ i ∷ s ∷ t ∷ []) ≡ (if b then Some (play i s t) else None)
-unfolding request_of
-play_named form i s t b e = ap (λ (x : Bool). if x then Some (play i s t) else None) e
+wrote_still : (a b c : Option (List ℕ)) (P : List ℕ → Type 0) → Adds b c [] → Wrote a b P → Wrote a c P
+wrote_still a b c P still wrote = λ taken e.
+    let w = wrote taken e in
+    (w.0, still.added (taken ++ w.0) w.1 ∙ ap Some (append-nil (taken ++ w.0)), w.2)
 
-gen_named : (form word : List ℕ) (b : Bool) → is_word "gen" form ≡ b → request_of (form ∷ word ∷ []) ≡ (if b then option_map gen (gen_number word) else None)
-unfolding request_of
-gen_named form word b e = ap (λ (x : Bool). if x then option_map gen (gen_number word) else None) e
+told_still : (files : Files) (a b c : Option (List ℕ)) (r : Option Request) → Adds b c [] → RequestTold files a b r → RequestTold files a c r
+told_still files a b c None still told = told
+told_still files a b c (Some (play i s t)) still told =
+    followed files i s t (λ bytes. Wrote a b (TellsPlay bytes.image bytes.script bytes.schedule)) (λ bytes. Wrote a c (TellsPlay bytes.image bytes.script bytes.schedule))
+    (λ bytes w. wrote_still a b c (TellsPlay bytes.image bytes.script bytes.schedule) still w) told
+told_still files a b c (Some (gen n)) still told = adds_and_none told still
 
-gen_asked : (form word : List ℕ) (n : Option ℕ) → is_word "gen" form ≡ true → gen_number word ≡ n → request_of (form ∷ word ∷ []) ≡ option_map gen n
-gen_asked form word n e g = gen_named form word true e ∙ ap (λ (x : Option ℕ). option_map gen x) g
+-- a count that goes on, and bytes told that stay
+module _ (f m g : ℕ) (a b c : Option (List ℕ)) (grew : m ≤ g) (still : Adds b c []) where
+  writes_still : (status : ℕ) (text : List ℕ) (result : ℕ) → WritesAs f m a b status text result → WritesAs f g a c status text result
+  writes_still status text result (whole adds) = whole (adds_and_none adds still)
+  writes_still status text result (part rose prefix) = part (rose_on f m g rose grew) (prefix_still prefix still)
 
-module _ (form i s t : List ℕ) (shelf : Files) where
-  pub play_answered : (call : Call) (status : ℕ) → is_word "play" form ≡ true → OfFiles shelf i s t (λ bytes. PlayAnswers i s t bytes call status) → CommandAnswers (form ∷ i ∷ s ∷ t ∷ []) shelf call status
-  play_answered call status e answers = answered (form ∷ i ∷ s ∷ t ∷ []) shelf call status (Some (play i s t)) (play_named form i s t true e) answers
+  plays_still : (text : List ℕ) (result : ℕ) → (result ≡ 7 → ⊥) → PlaysAs f m a b text result → PlaysAs f g a c text result
+  plays_still text result other (whole_text adds) = whole_text (adds_and_none adds still)
+  plays_still text result other (part_of_text rose prefix) = part_of_text (rose_on f m g rose grew) (prefix_still prefix still)
+  plays_still text result other (no_text same) = absurd (other refl)
 
-  pub play_told : (before after : Option (List ℕ)) → is_word "play" form ≡ true → OfFiles shelf i s t (λ bytes. Wrote before after (TellsPlay bytes.image bytes.script bytes.schedule)) →
-      RequestTold shelf before after (request_of (form ∷ i ∷ s ∷ t ∷ []))
-  play_told before after e wrote = told (form ∷ i ∷ s ∷ t ∷ []) shelf before after (Some (play i s t)) (play_named form i s t true e) wrote
+-- a request that is answered, with the shelf's counts
+module _ (files : Files) (h k f m g : ℕ) (a b c : Option (List ℕ)) where
+  abbrev Mid : Call
+  Mid = record { shelf_faults = h; shelf_faults_after = k; sink_faults = f; sink_faults_after = m; told = a; told_after = b }
 
-  pub usage_answered : (call : Call) (status : ℕ) → is_word "play" form ≡ false → UsageTold call status → CommandAnswers (form ∷ i ∷ s ∷ t ∷ []) shelf call status
-  usage_answered call status e holds = answered (form ∷ i ∷ s ∷ t ∷ []) shelf call status None (play_named form i s t false e) holds
+  abbrev Last : Call
+  Last = record { shelf_faults = h; shelf_faults_after = k; sink_faults = f; sink_faults_after = g; told = a; told_after = c }
 
-  pub play_listed : (status : ℕ) → is_word "play" form ≡ true → IsPlayStatus status → HasStatusOf (request_of (form ∷ i ∷ s ∷ t ∷ [])) status
-  play_listed status e holds = listed (form ∷ i ∷ s ∷ t ∷ []) status (Some (play i s t)) (play_named form i s t true e) holds
+  module _ (grew : m ≤ g) (still : Adds b c []) where
+    answers_still : (i s t : List ℕ) (bytes : Contents) (result : ℕ) → (result ≡ 7 → ⊥) → PlayAnswers i s t bytes Mid result → PlayAnswers i s t bytes Last result
+    answers_still i s t bytes result other (verdict adds) = verdict (adds_and_none adds still)
+    answers_still i s t bytes result other (read_fault name fault rose adds) = read_fault name fault rose (adds_and_none adds still)
+    answers_still i s t bytes result other (write_fault rose prefix) = write_fault (rose_on f m g rose grew) (prefix_still prefix still)
+    answers_still i s t bytes result other (both_faults name fault rose failed prefix) = both_faults name fault rose (rose_on f m g failed grew) (prefix_still prefix still)
+    answers_still i s t bytes result other (no_memory same) = absurd (other refl)
 
-  pub usage_listed : (call : Call) (status : ℕ) → is_word "play" form ≡ false → UsageTold call status → HasStatusOf (request_of (form ∷ i ∷ s ∷ t ∷ [])) status
-  usage_listed call status e holds = none_listed (form ∷ i ∷ s ∷ t ∷ []) call status (play_named form i s t false e) holds
+    request_still : (r : Option Request) (result : ℕ) → (result ≡ 7 → ⊥) → IsAnswered r files Mid result → IsAnswered r files Last result
+    request_still None result other x = writes_still f m g a b c grew still 1 (ended usage) result x
+    request_still (Some (play i s t)) result other x =
+        followed files i s t (λ bytes. PlayAnswers i s t bytes Mid result) (λ bytes. PlayAnswers i s t bytes Last result) (λ bytes w. answers_still i s t bytes result other w) x
+    request_still (Some (gen n)) result other x = plays_still f m g a b c grew still (gen_text n) result other x
 
-module _ (form word : List ℕ) (shelf : Files) where
-  pub gen_answered : (call : Call) (status n : ℕ) → is_word "gen" form ≡ true → gen_number word ≡ Some n → PlaysAs call.sink_faults call.sink_faults_after call.told call.told_after (gen_text n) status →
-      CommandAnswers (form ∷ word ∷ []) shelf call status
-  gen_answered call status n e g holds = answered (form ∷ word ∷ []) shelf call status (Some (gen n)) (gen_asked form word (Some n) e g) holds
+  module _ (r : Option Request) (holds_back : Bool) (status : ℕ) where
+    pub out_answers : (result : ℕ) → IsAnswered r files Mid status → WrittenOut holds_back m g b c status result → IsAnswered r files Last result ⊎ LosesItsEnd r files holds_back Last result
+    out_answers result x (untouched seven count same) =
+        let counted : IsAnswered r files (record Mid { sink_faults_after = g }) status =
+        subst (λ (n : ℕ). IsAnswered r files (record Mid { sink_faults_after = n }) status) (sym count) x in
+        let told : IsAnswered r files Last status = subst (λ (o : Option (List ℕ)). IsAnswered r files (record Last { told_after = o }) status) (sym same) counted in
+        inl (subst (λ (n : ℕ). IsAnswered r files Last n) seven told)
+    out_answers result x (all_out other grew still) = inl (request_still grew still r status other x)
+    out_answers result x (end_lost holds rose begins) =
+        inr (record { is_6 = refl; holds = holds; mid = b; faults = m; lost_status = status; rose = rose; answered = x; begins = begins })
 
-  pub gen_told : (before after : Option (List ℕ)) (n : ℕ) → is_word "gen" form ≡ true → gen_number word ≡ Some n → Adds before after (gen_text n) → RequestTold shelf before after (request_of (form ∷ word ∷ []))
-  gen_told before after n e g adds = told (form ∷ word ∷ []) shelf before after (Some (gen n)) (gen_asked form word (Some n) e g) adds
+    pub out_headline : (result : ℕ) → (status ≡ 0 → RequestTold files a b r) → WrittenOut holds_back m g b c status result → result ≡ 0 → RequestTold files a c r
+    out_headline result told (untouched seven count same) e = absurd (omega (arith, e))
+    out_headline result told (all_out other grew still) e = told_still files a b c r still (told e)
+    out_headline result told (end_lost holds rose begins) e = absurd (omega (arith, e))
 
-  pub no_gen_answered : (call : Call) (status : ℕ) → is_word "gen" form ≡ false → UsageTold call status → CommandAnswers (form ∷ word ∷ []) shelf call status
-  no_gen_answered call status e holds = answered (form ∷ word ∷ []) shelf call status None (gen_named form word false e) holds
+    pub out_read_fault : (result : ℕ) → (status ≡ 5 → Rose h k) → WrittenOut holds_back m g b c status result → result ≡ 5 → Rose h k
+    out_read_fault result rises (untouched seven count same) e = absurd (omega (arith, e))
+    out_read_fault result rises (all_out other grew still) e = rises e
+    out_read_fault result rises (end_lost holds rose begins) e = absurd (omega (arith, e))
 
-  pub no_number_answered : (call : Call) (status : ℕ) → is_word "gen" form ≡ true → gen_number word ≡ None → UsageTold call status → CommandAnswers (form ∷ word ∷ []) shelf call status
-  no_number_answered call status e g holds = answered (form ∷ word ∷ []) shelf call status None (gen_asked form word None e g) holds
+    pub out_write_fault : (result : ℕ) → f ≤ m → (status ≡ 6 → Rose f m) → WrittenOut holds_back m g b c status result → result ≡ 6 → Rose f g
+    out_write_fault result grows rises (untouched seven count same) e = absurd (omega (arith, e))
+    out_write_fault result grows rises (all_out other grew still) e = rose_on f m g (rises e) grew
+    out_write_fault result grows rises (end_lost holds rose begins) e = rose_since f m g grows rose
 
-  pub gen_listed : (status n : ℕ) → is_word "gen" form ≡ true → gen_number word ≡ Some n → (status ≡ 0) ⊎ ((6 ≤ status) × (status ≤ 7)) → HasStatusOf (request_of (form ∷ word ∷ [])) status
-  gen_listed status n e g holds = listed (form ∷ word ∷ []) status (Some (gen n)) (gen_asked form word (Some n) e g) holds
+    pub out_no_memory : (result : ℕ) → (status ≡ 7 → b ≡ a) → WrittenOut holds_back m g b c status result → result ≡ 7 → c ≡ a
+    out_no_memory result nothing (untouched seven count same) e = same ∙ nothing seven
+    out_no_memory result nothing (all_out other grew still) e = absurd (other e)
+    out_no_memory result nothing (end_lost holds rose begins) e = absurd (omega (arith, e))
 
-  pub no_gen_listed : (call : Call) (status : ℕ) → is_word "gen" form ≡ false → UsageTold call status → HasStatusOf (request_of (form ∷ word ∷ [])) status
-  no_gen_listed call status e holds = none_listed (form ∷ word ∷ []) call status (gen_named form word false e) holds
+    -- 6 is a status of each request
+    six_listed : (r : Option Request) → HasStatusOf r 6
+    six_listed None = inr refl
+    six_listed (Some (play i s t)) = inr (omega arith, omega arith)
+    six_listed (Some (gen n)) = inr (omega arith, omega arith)
 
-  pub no_number_listed : (call : Call) (status : ℕ) → is_word "gen" form ≡ true → gen_number word ≡ None → UsageTold call status → HasStatusOf (request_of (form ∷ word ∷ [])) status
-  no_number_listed call status e g holds = none_listed (form ∷ word ∷ []) call status (gen_asked form word None e g) holds
-
--- words of another number are of no form
-other_number : (words : List (List ℕ)) → (length words ≡ 2 → ⊥) → (length words ≡ 4 → ⊥) → request_of words ≡ None
-unfolding request_of
-other_number [] not_2 not_4 = refl
-other_number (a ∷ []) not_2 not_4 = refl
-other_number (a ∷ b ∷ []) not_2 not_4 = absurd (not_2 refl)
-other_number (a ∷ b ∷ c ∷ []) not_2 not_4 = refl
-other_number (a ∷ b ∷ c ∷ d ∷ []) not_2 not_4 = absurd (not_4 refl)
-other_number (a ∷ b ∷ c ∷ d ∷ e ∷ more) not_2 not_4 = refl
-
-no_form : {A : Type 0} (bytes : A → List ℕ) (words : List A) → (length words ≡ 2 → ⊥) → (length words ≡ 4 → ⊥) → request_of (map bytes words) ≡ None
-no_form bytes words not_2 not_4 =
-    let same = sym (length-map words bytes) in
-    other_number (map bytes words) (λ is_2. not_2 (same ∙ is_2)) (λ is_4. not_4 (same ∙ is_4))
-
-module _ {A : Type 0} (bytes : A → List ℕ) (words : List A) where
-  of_few : length words < 2 → request_of (map bytes words) ≡ None
-  of_few h = no_form bytes words (λ e. omega (arith, h, e)) (λ e. omega (arith, h, e))
-
-  of_three : 3 ≤ length words → length words < 4 → request_of (map bytes words) ≡ None
-  of_three h g = no_form bytes words (λ e. omega (arith, h, e)) (λ e. omega (arith, g, e))
-
-  of_many : 5 ≤ length words → request_of (map bytes words) ≡ None
-  of_many h = no_form bytes words (λ e. omega (arith, h, e)) (λ e. omega (arith, h, e))
-
-  module _ (shelf : Files) (call : Call) (status : ℕ) where
-    pub few_answered : length words < 2 → UsageTold call status → CommandAnswers (map bytes words) shelf call status
-    few_answered h holds = answered (map bytes words) shelf call status None (of_few h) holds
-
-    pub three_answered : 3 ≤ length words → length words < 4 → UsageTold call status → CommandAnswers (map bytes words) shelf call status
-    three_answered h g holds = answered (map bytes words) shelf call status None (of_three h g) holds
-
-    pub many_answered : 5 ≤ length words → UsageTold call status → CommandAnswers (map bytes words) shelf call status
-    many_answered h holds = answered (map bytes words) shelf call status None (of_many h) holds
-
-  module _ (call : Call) (status : ℕ) where
-    pub few_listed : length words < 2 → UsageTold call status → HasStatusOf (request_of (map bytes words)) status
-    few_listed h holds = none_listed (map bytes words) call status (of_few h) holds
-
-    pub three_listed : 3 ≤ length words → length words < 4 → UsageTold call status → HasStatusOf (request_of (map bytes words)) status
-    three_listed h g holds = none_listed (map bytes words) call status (of_three h g) holds
-
-    pub many_listed : 5 ≤ length words → UsageTold call status → HasStatusOf (request_of (map bytes words)) status
-    many_listed h holds = none_listed (map bytes words) call status (of_many h) holds
+    pub out_listed : (result : ℕ) → HasStatusOf r status → WrittenOut holds_back m g b c status result → HasStatusOf r result
+    out_listed result has (untouched seven count same) = subst (λ (n : ℕ). HasStatusOf r n) seven has
+    out_listed result has (all_out other grew still) = has
+    out_listed result has (end_lost holds rose begins) = six_listed r

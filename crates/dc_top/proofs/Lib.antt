@@ -3,4 +3,5 @@ mod Commanding
 mod Headlines
 mod Loading
 mod Readings
+mod Requesting
 mod Summaries

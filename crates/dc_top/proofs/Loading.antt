@@ -13,14 +13,12 @@ use Rattle.dc_script.specs.Texts.{AreBounds}
 use Rattle.dc_base.specs.Limits.{longest_file}
 use Rattle.dc_top.specs.declared.halts.Halt.{Halt}
 use Rattle.dc_top.specs.declared.halts.Halt.TheVariants as halt
-use Rattle.dc_top.specs.declared.halts.Which.{Which}
-use Rattle.dc_top.specs.declared.halts.Which.TheVariants as which
-use Rattle.dc_top.specs.declared.refusals.Refusal.{Refusal}
-use Rattle.dc_top.specs.declared.refusals.Refusal.TheVariants as why
+use Rattle.dc_top.specs.declared.bad_inputs.BadInput.{BadInput}
+use Rattle.dc_top.specs.declared.bad_inputs.BadInput.TheVariants as why
 use Rattle.dc_top.specs.Calls.{FaultOf, at_image, at_script, at_schedule}
 use Rattle.dc_top.specs.Contents.{Contents, Files, MayHold, OfFile, OfFiles}
-use Rattle.dc_top.specs.Halts.{Halts, HaltsAt, IsReady, MissesAt, RefusedBy, name_of, verdict_of}
-use Rattle.dc_top.specs.Refusals.{Verdict}
+use Rattle.dc_top.specs.Halts.{Halts, HaltsAt, IsReady, MissesAt, RefusedBy, verdict_of}
+use Rattle.dc_top.specs.BadInputs.{Verdict}
 use Rattle.dc_top.specs.Verdict.{bounds_of, image_read, inputs_read, play_verdict, schedule_read, script_read}
 use Rattle.dc_top.proofs.Readings.{image_too_long, script_too_long, schedule_too_long}
 use Rattle.dc_play.proofs.Rises.{rose_since}
@@ -31,38 +29,38 @@ long_bytes zero = (0 ∷ [], omega arith)
 long_bytes (suc n) = let shorter = long_bytes n in (0 ∷ shorter.0, omega (arith, shorter.1))
 
 -- a file that is not loaded does not serve
-misses : {A : Type 0} (w : Which) (files : Files) (read : List ℕ → Result A Verdict) (name : List ℕ) (too_long : Refusal) (before now : ℕ) (h : Halt) →
-    ((bytes : List ℕ) → longest_file < length bytes → read bytes ≡ Err (verdict_of too_long)) → MissesAt w files name too_long before now h → HaltsAt w files read name before now h
-misses w None read name too_long before now (halt.Refused r) long m =
+misses : {A : Type 0} (files : Files) (read : List ℕ → Result A Verdict) (name : List ℕ) (too_long : BadInput) (before now : ℕ) (h : Halt) →
+    ((bytes : List ℕ) → longest_file < length bytes → read bytes ≡ Err (verdict_of too_long)) → MissesAt files name too_long before now h → HaltsAt files read name before now h
+misses None read name too_long before now (halt.Refused r) long m =
     let some = long_bytes longest_file in
-    record { bytes = some.0; may = cc; holds = long some.0 some.1 ∙ ap (λ (x : Refusal). Err (verdict_of x)) (sym m.0) }
-misses w (Some f) read name too_long before now (halt.Refused r) long m = record { bytes = f name; may = refl; holds = long (f name) m.1 ∙ ap (λ (x : Refusal). Err (verdict_of x)) (sym m.0) }
-misses w files read name too_long before now (halt.Unread v) long m = m
-misses w files read name too_long before now halt.Memory long m = cc
+    record { bytes = some.0; may = cc; holds = long some.0 some.1 ∙ ap (λ (x : BadInput). Err (verdict_of x)) (sym m.0) }
+misses (Some f) read name too_long before now (halt.Refused r) long m = record { bytes = f name; may = refl; holds = long (f name) m.1 ∙ ap (λ (x : BadInput). Err (verdict_of x)) (sym m.0) }
+misses files read name too_long before now (halt.Unread n) long m = m
+misses files read name too_long before now halt.Memory long m = cc
 
-pub image_misses : (files : Files) (name : List ℕ) (before now : ℕ) (h : Halt) → MissesAt which.Image files name (why.Image told.TooLong) before now h → HaltsAt which.Image files image_read name before now h
-image_misses files name before now h = misses which.Image files image_read name (why.Image told.TooLong) before now h image_too_long
+pub image_misses : (files : Files) (name : List ℕ) (before now : ℕ) (h : Halt) → MissesAt files name (why.Image told.TooLong) before now h → HaltsAt files image_read name before now h
+image_misses files name before now h = misses files image_read name (why.Image told.TooLong) before now h image_too_long
 
-pub script_misses : (b : Bounds) (files : Files) (name : List ℕ) (before now : ℕ) (h : Halt) → MissesAt which.Script files name (why.Script refused.TooLong) before now h → HaltsAt which.Script files (script_read b) name before now h
-script_misses b files name before now h = misses which.Script files (script_read b) name (why.Script refused.TooLong) before now h (script_too_long b)
+pub script_misses : (b : Bounds) (files : Files) (name : List ℕ) (before now : ℕ) (h : Halt) → MissesAt files name (why.Script refused.TooLong) before now h → HaltsAt files (script_read b) name before now h
+script_misses b files name before now h = misses files (script_read b) name (why.Script refused.TooLong) before now h (script_too_long b)
 
-pub schedule_misses : (b : Bounds) (files : Files) (name : List ℕ) (before now : ℕ) (h : Halt) → MissesAt which.Schedule files name (why.Schedule refused.TooLong) before now h → HaltsAt which.Schedule files (schedule_read b) name before now h
-schedule_misses b files name before now h = misses which.Schedule files (schedule_read b) name (why.Schedule refused.TooLong) before now h (schedule_too_long b)
+pub schedule_misses : (b : Bounds) (files : Files) (name : List ℕ) (before now : ℕ) (h : Halt) → MissesAt files name (why.Schedule refused.TooLong) before now h → HaltsAt files (schedule_read b) name before now h
+schedule_misses b files name before now h = misses files (schedule_read b) name (why.Schedule refused.TooLong) before now h (schedule_too_long b)
 
 -- a file whose bytes are refused does not serve
-refuses : {A : Type 0} (w : Which) (files : Files) (read : List ℕ → Result A Verdict) (name bytes : List ℕ) (before now : ℕ) (h : Halt) → RefusedBy (read bytes) h → MayHold files name bytes → HaltsAt w files read name before now h
-refuses w files read name bytes before now (halt.Refused r) e may = record { bytes = bytes; may = may; holds = e }
-refuses w files read name bytes before now (halt.Unread v) e may = absurd e
-refuses w files read name bytes before now halt.Memory e may = cc
+refuses : {A : Type 0} (files : Files) (read : List ℕ → Result A Verdict) (name bytes : List ℕ) (before now : ℕ) (h : Halt) → RefusedBy (read bytes) h → MayHold files name bytes → HaltsAt files read name before now h
+refuses files read name bytes before now (halt.Refused r) e may = record { bytes = bytes; may = may; holds = e }
+refuses files read name bytes before now (halt.Unread n) e may = absurd e
+refuses files read name bytes before now halt.Memory e may = cc
 
-pub image_refuses : (files : Files) (name bytes : List ℕ) (before now : ℕ) (h : Halt) → RefusedBy (image_read bytes) h → MayHold files name bytes → HaltsAt which.Image files image_read name before now h
-image_refuses files name bytes before now h = refuses which.Image files image_read name bytes before now h
+pub image_refuses : (files : Files) (name bytes : List ℕ) (before now : ℕ) (h : Halt) → RefusedBy (image_read bytes) h → MayHold files name bytes → HaltsAt files image_read name before now h
+image_refuses files name bytes before now h = refuses files image_read name bytes before now h
 
-pub script_refuses : (b : Bounds) (files : Files) (name bytes : List ℕ) (before now : ℕ) (h : Halt) → RefusedBy (script_read b bytes) h → MayHold files name bytes → HaltsAt which.Script files (script_read b) name before now h
-script_refuses b files name bytes before now h = refuses which.Script files (script_read b) name bytes before now h
+pub script_refuses : (b : Bounds) (files : Files) (name bytes : List ℕ) (before now : ℕ) (h : Halt) → RefusedBy (script_read b bytes) h → MayHold files name bytes → HaltsAt files (script_read b) name before now h
+script_refuses b files name bytes before now h = refuses files (script_read b) name bytes before now h
 
-pub schedule_refuses : (b : Bounds) (files : Files) (name bytes : List ℕ) (before now : ℕ) (h : Halt) → RefusedBy (schedule_read b bytes) h → MayHold files name bytes → HaltsAt which.Schedule files (schedule_read b) name before now h
-schedule_refuses b files name bytes before now h = refuses which.Schedule files (schedule_read b) name bytes before now h
+pub schedule_refuses : (b : Bounds) (files : Files) (name bytes : List ℕ) (before now : ℕ) (h : Halt) → RefusedBy (schedule_read b bytes) h → MayHold files name bytes → HaltsAt files (schedule_read b) name before now h
+schedule_refuses b files name bytes before now h = refuses files (schedule_read b) name bytes before now h
 
 -- a file whose bytes are accepted serves
 pub image_serves : (files : Files) (name bytes : List ℕ) (i : Image) → image_read bytes ≡ Ok i → MayHold files name bytes → OfFile files name (λ bytes. image_read bytes ≡ Ok i)
@@ -140,16 +138,16 @@ module _ (image script schedule : List ℕ) where
   abbrev V : Verdict → Contents → Type 0
   V v = λ bytes. play_verdict bytes.image bytes.script bytes.schedule ≡ v
 
-  abbrev F : Which → Contents → Type 0
-  F w = λ bytes. FaultOf image script schedule bytes (name_of w image script schedule)
+  abbrev F : List ℕ → Contents → Type 0
+  F name = λ bytes. FaultOf image script schedule bytes name
 
-  fault_at : (bytes : Contents) (w v : Which) → w ≡ v → F v bytes → F w bytes
-  fault_at bytes w v same fault = subst (λ (x : Which). F x bytes) (sym same) fault
+  fault_at : (bytes : Contents) (named name : List ℕ) → named ≡ name → F name bytes → F named bytes
+  fault_at bytes named name same fault = subst (λ (x : List ℕ). F x bytes) (sym same) fault
 
-  pub image_halts : (files : Files) (before now : ℕ) (h : Halt) → HaltsAt which.Image files image_read image before now h → Halts files image script schedule before now h
+  pub image_halts : (files : Files) (before now : ℕ) (h : Halt) → HaltsAt files image_read image before now h → Halts files image script schedule before now h
   image_halts files before now (halt.Refused r) e = by_image files (λ x. image_read x ≡ Err (verdict_of r)) (V (verdict_of r)) (λ x y z p. image_first x y z (verdict_of r) p) e
-  image_halts files before now (halt.Unread w) e =
-      (e.1, by_image files (λ x. Unit {0}) (F w) (λ x y z p. fault_at (record { image = x; script = y; schedule = z }) w which.Image e.0 at_image) (any_bytes files image))
+  image_halts files before now (halt.Unread n) e =
+      (e.1, by_image files (λ x. Unit {0}) (F n.now) (λ x y z p. fault_at (record { image = x; script = y; schedule = z }) n.now image e.0 at_image) (any_bytes files image))
   image_halts files before now halt.Memory e = cc
 
   module _ (i : Image) (b : Bounds) (fits : b ≡ bounds_of i) where
@@ -164,18 +162,18 @@ module _ (image script schedule : List ℕ) where
     abbrev I : List ℕ → Type 0
     I = λ bytes. image_read bytes ≡ Ok i
 
-    script_by : (files : Files) (before then now : ℕ) (h : Halt) → OfFile files image I → before ≤ then → HaltsAt which.Script files (script_read b) script then now h → Halts files image script schedule before now h
+    script_by : (files : Files) (before then now : ℕ) (h : Halt) → OfFile files image I → before ≤ then → HaltsAt files (script_read b) script then now h → Halts files image script schedule before now h
     script_by files before then now (halt.Refused r) start le e =
         by_script files I (λ x. script_read b x ≡ Err (verdict_of r)) (V (verdict_of r)) (λ x y z p q. script_next x y z i (verdict_of r) p (script_with y (Err (verdict_of r)) q)) start e
-    script_by files before then now (halt.Unread w) start le e = (
+    script_by files before then now (halt.Unread n) start le e = (
       rose_since before then now le e.1,
-      by_image files I (F w) (λ x y z p. fault_at (record { image = x; script = y; schedule = z }) w which.Script e.0 (at_script (is_ok (image_read x) i p))) start,
+      by_image files I (F n.now) (λ x y z p. fault_at (record { image = x; script = y; schedule = z }) n.now script e.0 (at_script (is_ok (image_read x) i p))) start,
     )
     script_by files before then now halt.Memory start le e = cc
 
     pub script_halts : (files kept : Files) (before then now : ℕ) (h : Halt) → OfFile files image (λ bytes. image_read bytes ≡ Ok i) → kept ≡ files → before ≤ then →
-        HaltsAt which.Script kept (script_read b) script then now h → Halts files image script schedule before now h
-    script_halts files kept before then now h start same le e = script_by files before then now h start le (subst (λ (x : Files). HaltsAt which.Script x (script_read b) script then now h) same e)
+        HaltsAt kept (script_read b) script then now h → Halts files image script schedule before now h
+    script_halts files kept before then now h start same le e = script_by files before then now h start le (subst (λ (x : Files). HaltsAt x (script_read b) script then now h) same e)
 
     module _ (s : List ScriptLine) where
       -- the bytes of a script that is accepted
@@ -186,23 +184,23 @@ module _ (image script schedule : List ℕ) where
       both_of x y p q = both_read x y i s p (script_with y (Ok s) q)
 
       schedule_by : (files : Files) (before then now : ℕ) (h : Halt) → OfFile files image I → OfFile files script S → before ≤ then →
-          HaltsAt which.Schedule files (schedule_read b) schedule then now h → Halts files image script schedule before now h
+          HaltsAt files (schedule_read b) schedule then now h → Halts files image script schedule before now h
       schedule_by files before then now (halt.Refused r) start read le e =
           by_schedule files I S (λ x. schedule_read b x ≡ Err (verdict_of r)) (V (verdict_of r))
           (λ x y z p q t. schedule_last x y z i s (verdict_of r) p (script_with y (Ok s) q) (schedule_with z (Err (verdict_of r)) t)) start read e
-      schedule_by files before then now (halt.Unread w) start read le e = (
+      schedule_by files before then now (halt.Unread n) start read le e = (
         rose_since before then now le e.1,
-        by_script files I S (F w)
-            (λ x y z p q. fault_at (record { image = x; script = y; schedule = z }) w which.Schedule e.0 (at_schedule (is_ok (inputs_read x y) (record { image = i; script = s }) (both_of x y p q)))) start read,
+        by_script files I S (F n.now)
+            (λ x y z p q. fault_at (record { image = x; script = y; schedule = z }) n.now schedule e.0 (at_schedule (is_ok (inputs_read x y) (record { image = i; script = s }) (both_of x y p q)))) start read,
       )
       schedule_by files before then now halt.Memory start read le e = cc
 
       pub schedule_halts : (files kept kept_again : Files) (before then later now : ℕ) (h : Halt) → OfFile files image (λ bytes. image_read bytes ≡ Ok i) → kept ≡ files →
           OfFile kept script (λ bytes. script_read b bytes ≡ Ok s) → kept_again ≡ kept → before ≤ then → then ≤ later →
-          HaltsAt which.Schedule kept_again (schedule_read b) schedule later now h → Halts files image script schedule before now h
+          HaltsAt kept_again (schedule_read b) schedule later now h → Halts files image script schedule before now h
       schedule_halts files kept kept_again before then later now h start same read same_again le le_again e =
           schedule_by files before later now h start (subst (λ (x : Files). OfFile x script S) same read) (omega (arith, le, le_again))
-          (subst (λ (x : Files). HaltsAt which.Schedule x (schedule_read b) schedule later now h) (same_again ∙ same) e)
+          (subst (λ (x : Files). HaltsAt x (schedule_read b) schedule later now h) (same_again ∙ same) e)
 
       module _ (a : List (Actor × Action)) where
         -- the bytes of a schedule that is accepted

@@ -7,7 +7,7 @@ use Rattle.dc_base.specs.declared.faults.TextFault.TheVariants as refused
 use Rattle.dc_base.specs.ScriptText.{text_read, script_of, schedule_of}
 use Rattle.dc_base.specs.Limits.{longest_file}
 use Rattle.dc_image.specs.ImageOf.{image_of}
-use Rattle.dc_top.specs.declared.refusals.Refusal.TheVariants as why
+use Rattle.dc_top.specs.declared.bad_inputs.BadInput.TheVariants as why
 use Rattle.dc_top.specs.Halts.{verdict_of}
 use Rattle.dc_top.specs.Verdict.{image_read, schedule_read, script_read}
 

@@ -1,18 +1,29 @@
 -- What the words of a command ask for.
-use Rattle.std.specs.Prelude.{◌≡◌, ◌⊎◌, ◌≤◌, ℕ, List, [], ◌∷◌, length, nat_lt, nat_le, if◌then◌else◌, Option, Some, None, MatchOption}
+use Rattle.std.specs.Prelude.{◌≡◌, ◌⊎◌, ◌≤◌, ℕ, List, [], ◌∷◌, length, nat_lt, nat_le, if◌then◌else◌, Bool, IsTrue, Option, Some, None, MatchOption}
 use Rattle.std.specs.Option.{option_map}
 use Rattle.dc_base.specs.PlayText.{gen_text}
 use Rattle.dc_base.specs.TextWords.{is_word, number_of, ended}
-use Rattle.dc_io.specs.Told.{Adds}
+use Rattle.dc_io.specs.Counts.{Rose}
+use Rattle.dc_io.specs.Told.{Adds, KeepsBeginning}
+use Rattle.dc_top.specs.declared.requests.Request.{Request as Read}
+use Rattle.dc_top.specs.declared.requests.Request.TheVariants as read
 use Rattle.dc_top.specs.Contents.{OfFiles}
 use Rattle.dc_top.specs.Calls.{Call, IsPlayStatus, PlayAnswers, TellsPlay, Wrote}
-use Rattle.dc_top.specs.Refusals.{usage}
+use Rattle.dc_top.specs.BadInputs.{usage}
 use Rattle.dc_top.specs.Written.{PlaysAs, WritesAs}
 
 -- what the words of a command ask for; a file is given by its name
 pub data Request : Type 0 where
   play : (image script schedule : List ℕ) → Request
   gen : ℕ → Request
+
+-- a request as the program reads it, with the bytes of its names
+abbrev pub asked_by : Read → Request
+asked_by (read.Play image script schedule) = play image.now script.now schedule.now
+asked_by (read.Gen n) = gen n
+
+abbrev pub asked : Option Read → Option Request
+asked request = option_map asked_by request
 
 abbrev pub if_small : Option ℕ → Option ℕ
 if_small None = None
@@ -37,9 +48,26 @@ RequestAnswers files call status (play image script schedule) =
     OfFiles files image script schedule (λ bytes. PlayAnswers image script schedule bytes call status)
 RequestAnswers files call status (gen n) = PlaysAs call.sink_faults call.sink_faults_after call.told call.told_after (gen_text n) status
 
--- what the words ask for is answered
-abbrev pub CommandAnswers : List (List ℕ) → Option (List ℕ → List ℕ) → Call → ℕ → Type 0
-CommandAnswers words files call status = MatchOption (request_of words) (UsageTold call status) (λ request. RequestAnswers files call status request)
+-- a request is answered, or the usage told where there is none
+abbrev pub IsAnswered : Option Request → Option (List ℕ → List ℕ) → Call → ℕ → Type 0
+IsAnswered request files call status = MatchOption request (UsageTold call status) (λ r. RequestAnswers files call status r)
+
+-- A request was answered, and then a fault was counted as the sink wrote out what it held back: an end of the text is lost, and the status is 6.
+pub record LosesItsEnd (request : Option Request) (files : Option (List ℕ → List ℕ)) (holds_back : Bool) (call : Call) (status : ℕ) : Type 0 where
+  pub is_6 : status ≡ 6
+  pub holds : IsTrue holds_back
+  -- what the sink told before, its count of faults, and the status that there would have been
+  pub mid : Option (List ℕ)
+  pub faults : ℕ
+  pub lost_status : ℕ
+  pub rose : Rose faults call.sink_faults_after
+  pub answered : IsAnswered request files (record call { sink_faults_after = faults; told_after = mid }) lost_status
+  pub begins : KeepsBeginning mid call.told_after
+
+-- what the words ask for is answered, whole or without its end
+abbrev pub CommandAnswers : List (List ℕ) → Option (List ℕ → List ℕ) → Bool → Call → ℕ → Type 0
+CommandAnswers words files holds_back call status =
+    IsAnswered (request_of words) files call status ⊎ LosesItsEnd (request_of words) files holds_back call status
 
 -- what was written for a request that was done: a text that tells a run of the files that a play names, or the summary of the generated input
 abbrev pub RequestTold : Option (List ℕ → List ℕ) → Option (List ℕ) → Option (List ℕ) → Option Request → Type 0

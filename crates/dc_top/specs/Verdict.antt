@@ -11,7 +11,7 @@ use Rattle.dc_base.specs.FaultText.{ImageRefusal, text_fault_line, image_fault_l
 use Rattle.dc_base.specs.PlayText.{play_text}
 use Rattle.dc_base.specs.ScriptText.{script_of, schedule_of}
 use Rattle.dc_image.specs.ImageOf.{image_of}
-use Rattle.dc_top.specs.Refusals.{Verdict, told}
+use Rattle.dc_top.specs.BadInputs.{Verdict, told}
 
 abbrev pub done : List ℕ → Verdict
 done text = record { status = 0; text = text }

@@ -1,18 +1,18 @@
 //! The top calls.
 
-ghost use Rattle.std.specs.Prelude.{◌≡◌};
+ghost use Rattle.std.specs.Prelude.{◌≡◌, ◌≤◌};
 ghost use Rattle.dc_base.specs.PlayText.{play_text};
 ghost use Rattle.dc_base.specs.States.{settings_of};
 ghost use Rattle.dc_base.specs.Valid.{IsValid, IsValidScript, IsValidSchedule};
 ghost use Rattle.dc_io.specs.Counts.{Rose};
 ghost use Rattle.dc_top.specs.Contents.{OfFiles};
 ghost use Rattle.dc_top.specs.Calls.{IsPlayStatus, PlayAnswers, TellsPlay, Wrote};
-ghost use Rattle.dc_top.specs.Halts.{HaltTold, name_of};
+ghost use Rattle.dc_top.specs.Halts.{HaltTold};
 ghost use Rattle.dc_top.specs.Written.{PlaysAs};
 
-use crate::halts::{Halt, Which};
+use crate::bad_inputs::{put_bad_input, put_read_fault, status_of};
+use crate::halts::Halt;
 use crate::loads::load_play;
-use crate::refusals::{put_read_fault, put_refusal, status_of};
 use crate::statuses::{status_for, status_of_play};
 use dc_base::images::Image;
 use dc_edf::EdfDriver;
@@ -26,27 +26,15 @@ use dc_script::{Schedule, Script};
 use dc_spelling::{tickets_are_in_order, what_is_spelled_is_read};
 use std::alloc::Global;
 
-fn name_of<'a>(which: Which, image: &'a str, script: &'a str, schedule: &'a str) -> &'a str
-    ensures { result.now ≡ name_of which image.now script.now schedule.now }
-{
-    match which {
-        Which::Image => image,
-        Which::Script => script,
-        Which::Schedule => schedule,
-    }
-}
-
 /// Writes why nothing is played, and says the status.
 #[tactic(auto, using(crate::proofs::Answers::writes_as))]
-fn tell<S: Sink>(halt: Halt, image: &str, script: &str, schedule: &str, sink: &mut S) -> u8
-    ensures told { HaltTold halt image.now script.now schedule.now (S.faults sink.old) (S.faults sink.new) (S.told sink.old) (S.told sink.new) result }
+fn tell<S: Sink>(halt: &Halt<'_>, sink: &mut S) -> u8
+    ensures told { HaltTold halt.now (S.faults sink.old) (S.faults sink.new) (S.told sink.old) (S.told sink.new) result }
+    ensures grows { S.faults sink.old ≤ S.faults sink.new }
 {
     match halt {
-        Halt::Refused(refusal) => status_for(put_refusal(&refusal, sink), status_of(&refusal)),
-        Halt::Unread(which) => {
-            let name = name_of(which, image, script, schedule);
-            status_for(put_read_fault(name, sink), 5)
-        }
+        Halt::Refused(input) => status_for(put_bad_input(input, sink), status_of(input)),
+        Halt::Unread(name) => status_for(put_read_fault(name, sink), 5),
         Halt::Memory => 7,
     }
 }
@@ -63,7 +51,8 @@ fn play_inputs<S: Sink>(
     requires image { IsValid image.now }
     requires script { IsValidScript (settings_of image.now) script.now }
     requires schedule { IsValidSchedule (settings_of image.now) schedule.now }
-    ensures { PlaysAs (S.faults sink.old) (S.faults sink.new) (S.told sink.old) (S.told sink.new) (play_text image.now script.now schedule.now) result }
+    ensures played { PlaysAs (S.faults sink.old) (S.faults sink.new) (S.told sink.old) (S.told sink.new) (play_text image.now script.now schedule.now) result }
+    ensures grows { S.faults sink.old ≤ S.faults sink.new }
 {
     let played = play::<Both<RrDriver, EdfDriver>, S>(alloc, image, script, schedule, sink);
     status_of_play(played)
@@ -100,6 +89,7 @@ pub fn play_call<H: Shelf, S: Sink>(
     ensures write_fault { result ≡ 6 → Rose (S.faults sink.old) (S.faults sink.new) }
     ensures no_memory { result ≡ 7 → S.told sink.new ≡ S.told sink.old }
     ensures listed { IsPlayStatus result }
+    ensures grows { S.faults sink.old ≤ S.faults sink.new }
 {
     every_run_is_reported();
     entries_are_in_range();
@@ -107,6 +97,6 @@ pub fn play_call<H: Shelf, S: Sink>(
     tickets_are_in_order();
     match load_play(alloc, image, script, schedule, shelf) {
         Ok((machine, lines, actions)) => play_inputs(alloc, &machine, &lines, &actions, sink),
-        Err(halt) => tell(halt, image, script, schedule, sink),
+        Err(halt) => tell(&halt, sink),
     }
 }

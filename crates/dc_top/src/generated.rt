@@ -67,6 +67,7 @@ pub fn gen_call<S: Sink>(alloc: Global, sink: &mut S, n: u32) -> u8
     ensures write_fault { result ≡ 6 → Rose (S.faults sink.old) (S.faults sink.new) }
     ensures no_memory { result ≡ 7 → S.told sink.new ≡ S.told sink.old }
     ensures listed { (result ≡ 0) ⊎ ((6 ≤ result) × (result ≤ 7)) }
+    ensures grows { S.faults sink.old ≤ S.faults sink.new }
 {
     match summary_of(alloc, n) {
         Ok(summary) => status_for(put_summary(summary, sink), 0),

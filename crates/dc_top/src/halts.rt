@@ -1,19 +1,11 @@
 //! Why nothing is played.
 
-use crate::refusals::Refusal;
+use crate::bad_inputs::BadInput;
 
-/// One of the three files.
-#[derive(Clone, Copy, Debug, PartialEq, Eq)]
-pub enum Which {
-    Image,
-    Script,
-    Schedule,
-}
-
-/// Why nothing is played: a file is refused, a file could not be read, or memory was wanting.
+/// Why nothing is played: a file is refused, the file of this name could not be read, or memory was wanting.
 #[derive(Debug, Drop)]
-pub enum Halt {
-    Refused(Refusal),
-    Unread(Which),
+pub enum Halt<'a> {
+    Refused(BadInput),
+    Unread(&'a str),
     Memory,
 }

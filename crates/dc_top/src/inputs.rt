@@ -8,8 +8,8 @@ ghost use Rattle.dc_script.specs.Texts.{AreBounds};
 ghost use Rattle.dc_top.specs.Halts.{RefusedBy};
 ghost use Rattle.dc_top.specs.Verdict.{image_read, schedule_read, script_read};
 
+use crate::bad_inputs::BadInput;
 use crate::halts::Halt;
-use crate::refusals::Refusal;
 use dc_base::commands::Bounds;
 use dc_base::faults::{ImageFault, TextFault};
 use dc_base::images::Image;
@@ -18,7 +18,7 @@ use dc_script::{Schedule, Script, read_schedule, read_script};
 use std::alloc::Global;
 
 /// Reads an image.
-pub fn image_in(alloc: Global, bytes: &[u8]) -> Result<Image, Halt>
+pub fn image_in<'a>(alloc: Global, bytes: &[u8]) -> Result<Image, Halt<'a>>
     ensures image { IfOk result (λ image. image_read bytes.now ≡ Ok image) }
     ensures valid { IfOk result IsValid }
     ensures refused { IfErr result (RefusedBy (image_read bytes.now)) }
@@ -26,12 +26,12 @@ pub fn image_in(alloc: Global, bytes: &[u8]) -> Result<Image, Halt>
     match read_image(alloc, bytes) {
         Ok(image) => Ok(image),
         Err(ImageFault::Memory) => Err(Halt::Memory),
-        Err(fault) => Err(Halt::Refused(Refusal::Image(fault))),
+        Err(fault) => Err(Halt::Refused(BadInput::Image(fault))),
     }
 }
 
 /// Reads a script.
-pub fn script_in(alloc: Global, bytes: &[u8], bounds: Bounds) -> Result<Script, Halt>
+pub fn script_in<'a>(alloc: Global, bytes: &[u8], bounds: Bounds) -> Result<Script, Halt<'a>>
     ensures script { IfOk result (λ script. script_read bounds bytes.now ≡ Ok script) }
     ensures valid { IfOk result (λ script. (t : Settings) → AreBounds bounds t → IsValidScript t script) }
     ensures refused { IfErr result (RefusedBy (script_read bounds bytes.now)) }
@@ -39,12 +39,12 @@ pub fn script_in(alloc: Global, bytes: &[u8], bounds: Bounds) -> Result<Script, 
     match read_script(alloc, bytes, bounds) {
         Ok(script) => Ok(script),
         Err(TextFault::Memory) => Err(Halt::Memory),
-        Err(fault) => Err(Halt::Refused(Refusal::Script(fault))),
+        Err(fault) => Err(Halt::Refused(BadInput::Script(fault))),
     }
 }
 
 /// Reads a schedule.
-pub fn schedule_in(alloc: Global, bytes: &[u8], bounds: Bounds) -> Result<Schedule, Halt>
+pub fn schedule_in<'a>(alloc: Global, bytes: &[u8], bounds: Bounds) -> Result<Schedule, Halt<'a>>
     ensures schedule { IfOk result (λ schedule. schedule_read bounds bytes.now ≡ Ok schedule) }
     ensures valid { IfOk result (λ schedule. (t : Settings) → AreBounds bounds t → IsValidSchedule t schedule) }
     ensures refused { IfErr result (RefusedBy (schedule_read bounds bytes.now)) }
@@ -52,6 +52,6 @@ pub fn schedule_in(alloc: Global, bytes: &[u8], bounds: Bounds) -> Result<Schedu
     match read_schedule(alloc, bytes, bounds) {
         Ok(schedule) => Ok(schedule),
         Err(TextFault::Memory) => Err(Halt::Memory),
-        Err(fault) => Err(Halt::Refused(Refusal::Schedule(fault))),
+        Err(fault) => Err(Halt::Refused(BadInput::Schedule(fault))),
     }
 }

@@ -1,13 +1,14 @@
 //! The top calls: a play of three files, the summary of a generated input, and the command line.
 #![tactic(auto)]
 
+mod bad_inputs;
 mod calls;
 mod commands;
 mod generated;
 mod halts;
 mod inputs;
 mod loads;
-mod refusals;
+mod requests;
 mod statuses;
 
 pub use calls::play_call;

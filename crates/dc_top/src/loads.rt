@@ -9,11 +9,10 @@ ghost use Rattle.dc_top.specs.Contents.{MayHold, OfFile, OfFiles};
 ghost use Rattle.dc_top.specs.Halts.{Halts, HaltsAt, IsReady, MissesAt};
 ghost use Rattle.dc_top.specs.Verdict.{image_read, script_read, schedule_read};
 ghost use Rattle.dc_top.specs.Verdict as verdict;
-ghost use Rattle.dc_top.specs.declared.halts.Which.TheVariants as which;
 
-use crate::halts::{Halt, Which};
+use crate::bad_inputs::BadInput;
+use crate::halts::Halt;
 use crate::inputs::{image_in, schedule_in, script_in};
-use crate::refusals::Refusal;
 use dc_base::commands::Bounds;
 use dc_base::faults::{ImageFault, TextFault};
 use dc_base::images::Image;
@@ -22,23 +21,22 @@ use dc_script::{Schedule, Script};
 use std::alloc::Global;
 
 /// Loads a file into an empty vector, and says what a failure is.
-fn load<H: Shelf>(
+fn load<'a, H: Shelf>(
     alloc: Global,
-    name: &str,
+    name: &'a str,
     shelf: &mut H,
-    which: Which,
-    too_long: Refusal,
-) -> Result<Vec<u8>, Halt>
+    too_long: BadInput,
+) -> Result<Vec<u8>, Halt<'a>>
     ensures loaded { IfOk result (λ bytes. MayHold (H.told shelf.old) name.now bytes.items) }
     ensures short { IfOk result (λ bytes. length bytes.items ≤ longest_file) }
-    ensures misses { IfErr result (MissesAt which (H.told shelf.old) name.now too_long (H.faults shelf.old) (H.faults shelf.new)) }
+    ensures misses { IfErr result (MissesAt (H.told shelf.old) name.now too_long (H.faults shelf.old) (H.faults shelf.new)) }
     ensures kept { H.told shelf.new ≡ H.told shelf.old }
     ensures grows { H.faults shelf.old ≤ H.faults shelf.new }
 {
     let mut bytes = Vec::new(alloc);
     match shelf.load(alloc, name, &mut bytes) {
         Ok(()) => Ok(bytes),
-        Err(Load::Failed) => Err(Halt::Unread(which)),
+        Err(Load::Failed) => Err(Halt::Unread(name)),
         Err(Load::TooLong) => Err(Halt::Refused(too_long)),
         Err(Load::Memory) => Err(Halt::Memory),
     }
@@ -46,15 +44,15 @@ fn load<H: Shelf>(
 
 /// The image of a file.
 #[tactic(auto, using(crate::proofs::Loading::image_misses, crate::proofs::Loading::image_refuses, crate::proofs::Loading::image_serves))]
-fn load_image<H: Shelf>(alloc: Global, name: &str, shelf: &mut H) -> Result<Image, Halt>
+fn load_image<'a, H: Shelf>(alloc: Global, name: &'a str, shelf: &mut H) -> Result<Image, Halt<'a>>
     ensures image { IfOk result (λ image. OfFile (H.told shelf.old) name.now (λ bytes. image_read bytes ≡ Ok image)) }
     ensures valid { IfOk result IsValid }
-    ensures halts { IfErr result (HaltsAt which.Image (H.told shelf.old) image_read name.now (H.faults shelf.old) (H.faults shelf.new)) }
+    ensures halts { IfErr result (HaltsAt (H.told shelf.old) image_read name.now (H.faults shelf.old) (H.faults shelf.new)) }
     ensures kept { H.told shelf.new ≡ H.told shelf.old }
     ensures grows { H.faults shelf.old ≤ H.faults shelf.new }
 {
-    let too_long = Refusal::Image(ImageFault::TooLong);
-    match load(alloc, name, shelf, Which::Image, too_long) {
+    let too_long = BadInput::Image(ImageFault::TooLong);
+    match load(alloc, name, shelf, too_long) {
         Ok(bytes) => image_in(alloc, bytes.as_slice()),
         Err(halt) => Err(halt),
     }
@@ -62,20 +60,20 @@ fn load_image<H: Shelf>(alloc: Global, name: &str, shelf: &mut H) -> Result<Imag
 
 /// The script of a file.
 #[tactic(auto, using(crate::proofs::Loading::script_misses, crate::proofs::Loading::script_refuses, crate::proofs::Loading::script_serves))]
-fn load_script<H: Shelf>(
+fn load_script<'a, H: Shelf>(
     alloc: Global,
-    name: &str,
+    name: &'a str,
     bounds: Bounds,
     shelf: &mut H,
-) -> Result<Script, Halt>
+) -> Result<Script, Halt<'a>>
     ensures script { IfOk result (λ script. OfFile (H.told shelf.old) name.now (λ bytes. script_read bounds bytes ≡ Ok script)) }
     ensures valid { IfOk result (λ script. (t : Settings) → AreBounds bounds t → IsValidScript t script) }
-    ensures halts { IfErr result (HaltsAt which.Script (H.told shelf.old) (script_read bounds) name.now (H.faults shelf.old) (H.faults shelf.new)) }
+    ensures halts { IfErr result (HaltsAt (H.told shelf.old) (script_read bounds) name.now (H.faults shelf.old) (H.faults shelf.new)) }
     ensures kept { H.told shelf.new ≡ H.told shelf.old }
     ensures grows { H.faults shelf.old ≤ H.faults shelf.new }
 {
-    let too_long = Refusal::Script(TextFault::TooLong);
-    match load(alloc, name, shelf, Which::Script, too_long) {
+    let too_long = BadInput::Script(TextFault::TooLong);
+    match load(alloc, name, shelf, too_long) {
         Ok(bytes) => script_in(alloc, bytes.as_slice(), bounds),
         Err(halt) => Err(halt),
     }
@@ -83,20 +81,20 @@ fn load_script<H: Shelf>(
 
 /// The schedule of a file.
 #[tactic(auto, using(crate::proofs::Loading::schedule_misses, crate::proofs::Loading::schedule_refuses, crate::proofs::Loading::schedule_serves))]
-fn load_schedule<H: Shelf>(
+fn load_schedule<'a, H: Shelf>(
     alloc: Global,
-    name: &str,
+    name: &'a str,
     bounds: Bounds,
     shelf: &mut H,
-) -> Result<Schedule, Halt>
+) -> Result<Schedule, Halt<'a>>
     ensures schedule { IfOk result (λ schedule. OfFile (H.told shelf.old) name.now (λ bytes. schedule_read bounds bytes ≡ Ok schedule)) }
     ensures valid { IfOk result (λ schedule. (t : Settings) → AreBounds bounds t → IsValidSchedule t schedule) }
-    ensures halts { IfErr result (HaltsAt which.Schedule (H.told shelf.old) (schedule_read bounds) name.now (H.faults shelf.old) (H.faults shelf.new)) }
+    ensures halts { IfErr result (HaltsAt (H.told shelf.old) (schedule_read bounds) name.now (H.faults shelf.old) (H.faults shelf.new)) }
     ensures kept { H.told shelf.new ≡ H.told shelf.old }
     ensures grows { H.faults shelf.old ≤ H.faults shelf.new }
 {
-    let too_long = Refusal::Schedule(TextFault::TooLong);
-    match load(alloc, name, shelf, Which::Schedule, too_long) {
+    let too_long = BadInput::Schedule(TextFault::TooLong);
+    match load(alloc, name, shelf, too_long) {
         Ok(bytes) => schedule_in(alloc, bytes.as_slice(), bounds),
         Err(halt) => Err(halt),
     }
@@ -116,13 +114,13 @@ fn bounds_of(image: &Image) -> Bounds
 
 /// The image, the script and the schedule of three files, each within what the one before it has.
 #[tactic(auto, using(crate::proofs::Loading::image_halts))]
-pub fn load_play<H: Shelf>(
+pub fn load_play<'a, H: Shelf>(
     alloc: Global,
-    image: &str,
-    script: &str,
-    schedule: &str,
+    image: &'a str,
+    script: &'a str,
+    schedule: &'a str,
     shelf: &mut H,
-) -> Result<(Image, Script, Schedule), Halt>
+) -> Result<(Image, Script, Schedule), Halt<'a>>
     ensures ready { IfOk result (λ r. OfFiles (H.told shelf.old) image.now script.now schedule.now (λ bytes. IsReady bytes.image bytes.script bytes.schedule r.0 r.1 r.2)) }
     ensures valid_image { IfOk result (λ r. IsValid r.0) }
     ensures valid_script { IfOk result (λ r. IsValidScript (settings_of r.0) r.1) }
@@ -139,8 +137,9 @@ pub fn load_play<H: Shelf>(
         Ok(lines) => lines,
         Err(halt) => return Err(halt),
     };
-    match load_schedule(alloc, schedule, bounds, shelf) {
-        Ok(actions) => Ok((machine, lines, actions)),
-        Err(halt) => Err(halt),
-    }
+    let actions = match load_schedule(alloc, schedule, bounds, shelf) {
+        Ok(actions) => actions,
+        Err(halt) => return Err(halt),
+    };
+    Ok((machine, lines, actions))
 }

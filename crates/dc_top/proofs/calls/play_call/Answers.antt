@@ -15,7 +15,7 @@ returns-in-Ok-clause-answers g c =
     }
     in
     played_answers c.args.image.now c.args.script.now c.args.schedule.now (g.H.Shelf.told c.args.shelf.now) call c.in-Ok.machine c.in-Ok.lines c.in-Ok.actions c.play_inputs.result c.in-Ok.ensures.ready
-    c.play_inputs.ensures
+    c.play_inputs.ensures.played
 
 pub returns-in-Err-clause-answers : goal.returns-in-Err-clause-answers
 returns-in-Err-clause-answers g c =
@@ -33,7 +33,7 @@ pub returns-in-Ok-clause-headline : goal.returns-in-Ok-clause-headline
 returns-in-Ok-clause-headline g c =
     played_tells c.every_run_is_reported.ensures.reported c.entries_are_in_range.ensures.lines c.entries_are_in_range.ensures.ranges c.what_is_spelled_is_read.ensures c.tickets_are_in_order.ensures
     c.args.image.now c.args.script.now c.args.schedule.now (g.H.Shelf.told c.args.shelf.now) (g.S.Sink.told c.args.sink.now) (g.S.Sink.told c.play_inputs.new.sink) (g.S.Sink.faults c.args.sink.now) (g.S.Sink.faults c.play_inputs.new.sink)
-    c.in-Ok.machine c.in-Ok.lines c.in-Ok.actions c.play_inputs.result c.in-Ok.ensures.ready c.in-Ok.ensures.valid_image c.in-Ok.ensures.valid_script c.in-Ok.ensures.valid_schedule c.play_inputs.ensures
+    c.in-Ok.machine c.in-Ok.lines c.in-Ok.actions c.play_inputs.result c.in-Ok.ensures.ready c.in-Ok.ensures.valid_image c.in-Ok.ensures.valid_script c.in-Ok.ensures.valid_schedule c.play_inputs.ensures.played
 
 pub returns-in-Err-clause-headline : goal.returns-in-Err-clause-headline
 returns-in-Err-clause-headline g c = λ is_0.

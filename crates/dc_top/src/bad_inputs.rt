@@ -7,29 +7,29 @@ ghost use Rattle.dc_base.specs.TextWords.{ended};
 ghost use Rattle.dc_image.specs.Faults.{refusal_of};
 ghost use Rattle.dc_io.specs.Counts.{Rose};
 ghost use Rattle.dc_play.specs.Written.{Writes};
-ghost use Rattle.dc_top.specs.Refusals as spec;
+ghost use Rattle.dc_top.specs.BadInputs as spec;
 
 use dc_base::faults::{AsmKind, ImageFault, Key, TextFault, TextKind};
 use dc_io::{Failed, Sink};
 use dc_play::{put_line, put_text};
 use dc_text::{Line, push_u32};
 
-/// Why a file is refused. Want of memory is no refusal, and has no line.
+/// What is wrong with a file that is refused. Want of memory is nothing wrong with it, and has no line.
 #[derive(Debug, Drop)]
-pub enum Refusal {
+pub enum BadInput {
     Image(ImageFault),
     Script(TextFault),
     Schedule(TextFault),
 }
 
-/// The status of a refusal.
-pub fn status_of(refusal: &Refusal) -> u8
-    ensures { result ≡ spec.status_of refusal.now }
+/// The status where a file is refused.
+pub fn status_of(input: &BadInput) -> u8
+    ensures { result ≡ spec.status_of input.now }
 {
-    match refusal {
-        Refusal::Image(_) => 2,
-        Refusal::Script(_) => 3,
-        Refusal::Schedule(_) => 4,
+    match input {
+        BadInput::Image(_) => 2,
+        BadInput::Script(_) => 3,
+        BadInput::Schedule(_) => 4,
     }
 }
 
@@ -141,26 +141,26 @@ fn text_line(name: &str, fault: TextFault) -> Line
     }
 }
 
-/// The line of a refusal, without its newline; empty for want of memory.
+/// The line of a file that is refused, without its newline; empty for want of memory.
 #[tactic(auto, unfolding(dc_base::specs::FaultText::text_fault_line))]
-fn line_of(refusal: &Refusal) -> Line
-    ensures text { result.bytes ≡ spec.line_of refusal.now }
+fn line_of(input: &BadInput) -> Line
+    ensures text { result.bytes ≡ spec.line_of input.now }
     ensures room { array_string_len result < 256 }
 {
-    match refusal {
-        Refusal::Image(fault) => image_line(fault),
-        Refusal::Script(fault) => text_line("script", *fault),
-        Refusal::Schedule(fault) => text_line("schedule", *fault),
+    match input {
+        BadInput::Image(fault) => image_line(fault),
+        BadInput::Script(fault) => text_line("script", *fault),
+        BadInput::Schedule(fault) => text_line("schedule", *fault),
     }
 }
 
-/// Writes the line of a refusal.
-pub fn put_refusal<S: Sink>(refusal: &Refusal, sink: &mut S) -> Result<(), Failed>
-    ensures writes { Writes (S.told sink.old) (S.told sink.new) (ended (spec.line_of refusal.now)) result }
+/// Writes the line of a file that is refused.
+pub fn put_bad_input<S: Sink>(input: &BadInput, sink: &mut S) -> Result<(), Failed>
+    ensures writes { Writes (S.told sink.old) (S.told sink.new) (ended (spec.line_of input.now)) result }
     ensures failed { OnErr result (Rose (S.faults sink.old) (S.faults sink.new)) }
     ensures grows { S.faults sink.old ≤ S.faults sink.new }
 {
-    put_line(sink, line_of(refusal))
+    put_line(sink, line_of(input))
 }
 
 /// Writes a text and another one behind it.

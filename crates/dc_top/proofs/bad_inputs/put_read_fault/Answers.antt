@@ -4,7 +4,7 @@ use Rattle.dc_base.specs.FaultText.{read_fault_line}
 use Rattle.dc_io.specs.Told.{Adds, AddsPrefix}
 use Rattle.dc_play.specs.Written.{Writes}
 use Rattle.dc_play.proofs.Adding.{prefix_first, writes_failed, writes_behind}
-use Rattle.dc_top.proofs.refusals.put_read_fault.Goals as goal
+use Rattle.dc_top.proofs.bad_inputs.put_read_fault.Goals as goal
 
 pub returns-in_err-put_both-clause-writes : goal.returns-in_err-put_both-clause-writes
 unfolding read_fault_line

@@ -1,5 +1,5 @@
 use Rattle.dc_play.proofs.Adding.{writes_behind}
-use Rattle.dc_top.proofs.refusals.put_both.Goals as goal
+use Rattle.dc_top.proofs.bad_inputs.put_both.Goals as goal
 
 pub returns-clause-writes : goal.returns-clause-writes
 returns-clause-writes g c =
