@@ -13,8 +13,8 @@ mod scripts;
 
 use dc_base::images::Image;
 use dc_base::memory::Memory;
+pub use dc_script::Schedule;
 use images::generate_image;
-pub use schedules::Schedule;
 use schedules::generate_schedule;
 pub use scripts::Script;
 use scripts::generate_script;

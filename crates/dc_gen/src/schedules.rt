@@ -4,13 +4,10 @@ ghost use Rattle.std.specs.Prelude.{◌≡◌, IfOk};
 ghost use Rattle.dc_base.specs.Generated as spec;
 
 use dc_base::actions::{Action, Actor};
-use dc_base::lists::Items;
 use dc_base::memory::Memory;
 use dc_base::numbers::{BlockNo, CoreNo, DispNo};
+use dc_script::Schedule;
 use std::alloc::Global;
-
-/// The lines of a schedule, in order: who acts, and what it does.
-pub type Schedule = Items<(Actor, Action)>;
 
 /// How many lines a generated schedule has.
 const LINES: u32 = 120_000;
@@ -45,7 +42,7 @@ fn line_of(x: u32) -> (Actor, Action)
 fn lines_behind(alloc: Global, count: u32, first: u32) -> Result<Schedule, Memory>
     ensures { IfOk result (λ lines. lines ≡ spec.generated_lines count first) }
 {
-    let mut lines = Items::new(alloc);
+    let mut lines = Schedule::new(alloc);
     let mut x = first;
     for _ in 0..count {
         x = next_number(x);

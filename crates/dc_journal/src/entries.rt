@@ -1,6 +1,6 @@
 //! The line of an entry.
 
-ghost use Rattle.std.specs.Prelude.{◌≡◌, ◌+◌, ◌≤◌, ◌<◌, IsTrue};
+ghost use Rattle.std.specs.Prelude.{◌≡◌, ◌+◌, ◌≤◌, ◌<◌, [], IsTrue};
 ghost use Rattle.arrayvec.specs.ArrayString.{array_string_len};
 ghost use Rattle.dc_base.specs.TextWords.{add_words};
 ghost use Rattle.dc_base.specs.EntryText.{entry_text, actor_words};
@@ -13,20 +13,30 @@ use dc_base::entries::{Entry, What};
 use dc_base::numbers::Ticket;
 use dc_text::{Line, push_u32, push_u64, push_word};
 
-/// The line of an entry that has one, without its newline, for which it has room.
+/// Adds the line of an entry that has one, without its newline, to an empty line.
 #[tactic(auto, unfolding(dc_base::specs::EntryText::entry_text, dc_base::specs::EntryRanges::has_line))]
+pub fn push_entry(line: &mut Line, ticket: Ticket, entry: &Entry)
+    requires empty { line.old.bytes ≡ [] }
+    requires has_line { IsTrue (spec.has_line entry.now) }
+    ensures text { line.new.bytes ≡ entry_text ticket.0 entry.now }
+    ensures room { array_string_len line.new < 256 }
+{
+    push_u64(line, ticket.0);
+    push_actor(line, entry.actor);
+    match entry.actor {
+        Actor::Core(_) => push_core_what(line, &entry.what),
+        Actor::Script => push_script_what(line, &entry.what),
+    }
+}
+
+/// The line of an entry that has one, without its newline, for which it has room.
 pub fn entry_line(ticket: Ticket, entry: &Entry) -> Line
     requires { IsTrue (spec.has_line entry.now) }
     ensures text { result.bytes ≡ entry_text ticket.0 entry.now }
     ensures room { array_string_len result < 256 }
 {
     let mut line = Line::new();
-    push_u64(&mut line, ticket.0);
-    push_actor(&mut line, entry.actor);
-    match entry.actor {
-        Actor::Core(_) => push_core_what(&mut line, &entry.what),
-        Actor::Script => push_script_what(&mut line, &entry.what),
-    }
+    push_entry(&mut line, ticket, entry);
     line
 }
 

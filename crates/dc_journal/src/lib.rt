@@ -12,7 +12,7 @@ mod reports;
 mod whats;
 mod words;
 
-pub use entries::{entry_line, has_line};
+pub use entries::{entry_line, has_line, push_entry};
 pub use journals::read_journal;
 pub use merging::{Logged, merge};
-pub use reports::report_line;
+pub use reports::{push_report_line, report_line};

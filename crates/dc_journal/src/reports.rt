@@ -21,13 +21,13 @@ use dc_base::numbers::{BlockNo, CoreNo, DispNo, LineNo, SignalNo};
 use dc_base::reports::ReportLine;
 use dc_text::{Line, push_list, push_u32, push_u64, push_word};
 
-/// The line of a report line, without its newline, for which it has room.
+/// Adds the line of a report line, without its newline, to an empty line.
 #[tactic(auto, unfolding(dc_base::specs::ReportText::report_line_text))]
-pub fn report_line(line: &ReportLine) -> Line
-    ensures text { result.bytes ≡ report_line_text line.now }
-    ensures room { array_string_len result < 256 }
+pub fn push_report_line(text: &mut Line, line: &ReportLine)
+    requires { text.old.bytes ≡ [] }
+    ensures text { text.new.bytes ≡ report_line_text line.now }
+    ensures room { array_string_len text.new < 256 }
 {
-    let mut text = Line::new();
     match line {
         ReportLine::CoreOn {
             core,
@@ -37,15 +37,15 @@ pub fn report_line(line: &ReportLine) -> Line
             share,
             used,
         } => {
-            push_on(&mut text, *core, *version, *clock);
-            push_share(&mut text, *home, share);
-            push_named(&mut text, "used", *used);
+            push_on(text, *core, *version, *clock);
+            push_share(text, *home, share);
+            push_named(text, "used", *used);
         }
         ReportLine::CoreOff { core, clock, used } => {
-            push_named(&mut text, "core", core.0);
-            push_word(&mut text, "off");
-            push_named_u64(&mut text, "clock", *clock);
-            push_named(&mut text, "used", *used);
+            push_named(text, "core", core.0);
+            push_word(text, "off");
+            push_named_u64(text, "clock", *clock);
+            push_named(text, "used", *used);
         }
         ReportLine::Block {
             block,
@@ -53,10 +53,10 @@ pub fn report_line(line: &ReportLine) -> Line
             time,
             armed,
         } => {
-            push_named(&mut text, "block", block.0);
-            push_place(&mut text, *core);
-            push_named_u64(&mut text, "time", *time);
-            push_named(&mut text, "armed", *armed);
+            push_named(text, "block", block.0);
+            push_place(text, *core);
+            push_named_u64(text, "time", *time);
+            push_named(text, "armed", *armed);
         }
         ReportLine::Disp {
             block,
@@ -65,15 +65,15 @@ pub fn report_line(line: &ReportLine) -> Line
             place,
             due,
         } => {
-            push_named(&mut text, "disp", block.0);
-            push_u32(&mut text, disp.0);
-            push_state(&mut text, *state);
-            push_named(&mut text, "place", *place);
-            push_named_u64(&mut text, "due", *due);
+            push_named(text, "disp", block.0);
+            push_u32(text, disp.0);
+            push_state(text, *state);
+            push_named(text, "place", *place);
+            push_named_u64(text, "due", *due);
         }
         ReportLine::Ready { block, list } => {
-            push_named(&mut text, "ready", block.0);
-            push_ready(&mut text, list);
+            push_named(text, "ready", block.0);
+            push_ready(text, list);
         }
         ReportLine::Cap {
             block,
@@ -81,51 +81,51 @@ pub fn report_line(line: &ReportLine) -> Line
             cap,
             parent,
         } => {
-            push_named(&mut text, "cap", block.0);
-            push_u32(&mut text, slot.0);
-            push_kind(&mut text, cap.kind);
-            push_named(&mut text, "rights", cap.rights as u32);
-            push_word(&mut text, "parent");
-            push_or_dash(&mut text, parent.map(|slot| slot.0));
+            push_named(text, "cap", block.0);
+            push_u32(text, slot.0);
+            push_kind(text, cap.kind);
+            push_named(text, "rights", cap.rights as u32);
+            push_word(text, "parent");
+            push_or_dash(text, parent.map(|slot| slot.0));
         }
         ReportLine::Timer { block, timer } => {
-            push_named(&mut text, "timer", block.0);
-            push_u64(&mut text, timer.deadline);
-            push_u32(&mut text, timer.number);
-            push_u32(&mut text, timer.signal.0);
-            push_u32(&mut text, timer.value);
+            push_named(text, "timer", block.0);
+            push_u64(text, timer.deadline);
+            push_u32(text, timer.number);
+            push_u32(text, timer.signal.0);
+            push_u32(text, timer.value);
         }
         ReportLine::PortMessage {
             block,
             port,
             message,
         } => {
-            push_named(&mut text, "port", block.0);
-            push_u32(&mut text, port.0);
-            push_message(&mut text, *message);
+            push_named(text, "port", block.0);
+            push_u32(text, port.0);
+            push_message(text, *message);
         }
         ReportLine::Signal {
             block,
             signal,
             latch,
         } => {
-            push_named(&mut text, "signal", block.0);
-            push_u32(&mut text, signal.0);
-            push_source(&mut text, latch.source);
-            push_u32(&mut text, latch.value);
+            push_named(text, "signal", block.0);
+            push_u32(text, signal.0);
+            push_source(text, latch.source);
+            push_u32(text, latch.value);
         }
         ReportLine::Channel {
             channel,
             sent,
             taken,
         } => {
-            push_named(&mut text, "channel", channel.0);
-            push_named_u64(&mut text, "sent", *sent);
-            push_named_u64(&mut text, "taken", *taken);
+            push_named(text, "channel", channel.0);
+            push_named_u64(text, "sent", *sent);
+            push_named_u64(text, "taken", *taken);
         }
         ReportLine::ChannelMessage { channel, message } => {
-            push_named(&mut text, "message", channel.0);
-            push_message(&mut text, *message);
+            push_named(text, "message", channel.0);
+            push_message(text, *message);
         }
         ReportLine::Line {
             line,
@@ -139,29 +139,38 @@ pub fn report_line(line: &ReportLine) -> Line
             joined,
             delivered,
         } => {
-            push_ends(&mut text, *line, *bound, *route);
-            push_named(&mut text, "raised", *raised);
-            push_named(&mut text, "stray", *stray);
-            push_named(&mut text, "pending", *pending);
-            push_named(&mut text, "merged", *merged);
-            push_named(&mut text, "latched", *latched);
-            push_named(&mut text, "joined", *joined);
-            push_named(&mut text, "delivered", *delivered);
+            push_ends(text, *line, *bound, *route);
+            push_named(text, "raised", *raised);
+            push_named(text, "stray", *stray);
+            push_named(text, "pending", *pending);
+            push_named(text, "merged", *merged);
+            push_named(text, "latched", *latched);
+            push_named(text, "joined", *joined);
+            push_named(text, "delivered", *delivered);
         }
         ReportLine::Offer {
             line,
             channel,
             rights,
         } => {
-            push_named(&mut text, "offer", line.0);
-            push_u32(&mut text, channel.0);
-            push_named(&mut text, "rights", *rights as u32);
+            push_named(text, "offer", line.0);
+            push_u32(text, channel.0);
+            push_named(text, "rights", *rights as u32);
         }
         ReportLine::Out { block, word } => {
-            push_named(&mut text, "out", block.0);
-            push_u32(&mut text, *word);
+            push_named(text, "out", block.0);
+            push_u32(text, *word);
         }
     }
+}
+
+/// The line of a report line, without its newline, for which it has room.
+pub fn report_line(line: &ReportLine) -> Line
+    ensures text { result.bytes ≡ report_line_text line.now }
+    ensures room { array_string_len result < 256 }
+{
+    let mut text = Line::new();
+    push_report_line(&mut text, line);
     text
 }
 

@@ -1,7 +1,6 @@
 -- A schedule that is played without its text goes on by an action.
-use Rattle.std.proofs.Common.{◌≡◌, ◌<◌, ◌≤◌, ℕ, ◌+◌, List, Some, None, refl, sym, ap, ◌∙◌, subst, arith, length, get_or, Bool, true, false}
+use Rattle.std.proofs.Common.{◌≡◌, ◌≤◌, ℕ, ◌+◌, List, Some, None, refl, sym, ap, ◌∙◌, subst, arith, Bool, true, false}
 use Rattle.std.specs.Prelude.{slice_get, if◌then◌else◌}
-use Rattle.std.proofs.lemmas.Option.{slice_get-get_or}
 use Rattle.dc_base.specs.declared.actions.Actor.{Actor}
 use Rattle.dc_base.specs.declared.actions.Action.{Action}
 use Rattle.dc_base.specs.Changes.{apply}
@@ -60,10 +59,6 @@ module _ (keeps : KeepsSound) (start : State) (schedule : List (Actor × Action)
   -- one action more was made and counted
   pub counted : Answers r state new (core_step state polls a.0 a.1) → polls_new ≡ polls_then a.1 polls (core_step state polls a.0 a.1) → IsCounting start schedule (i + 1) new polls_new (entries_then r entries) (skipped_then r skipped)
   counted q k = counted_by (core_step state polls a.0 a.1) refl q k
-
--- the action at a place of the schedule
-pub listed : (schedule : List (Actor × Action)) (i : ℕ) (d : Actor × Action) → i < length schedule → slice_get schedule i ≡ Some (get_or schedule i d)
-listed schedule i d h = slice_get-get_or schedule i d h
 
 entries_by : (t : Bool) (n : Counts) → (if t then n.entries + 1 else n.entries) ≡ (if t then record n { entries = n.entries + 1 } else record n { skipped = n.skipped + 1 }).entries
 entries_by true n = refl

@@ -8,9 +8,9 @@ ghost use Rattle.dc_base.specs.Valid.{IsValidSchedule};
 ghost use Rattle.dc_machine.specs.Answers.{is_did};
 ghost use Rattle.dc_objects.specs.States.{state_of};
 
-use dc_base::actions::{Action, Actor};
 use dc_kernel::Driver;
 use dc_machine::{Objects, Stepped, step};
+use dc_script::Schedule;
 use dc_sound::sound_keeps;
 
 /// How many actions made an entry, and how many made none.
@@ -39,10 +39,7 @@ fn with_one(counts: Counts, stepped: &Stepped) -> Counts
 }
 
 /// Makes the actions of a schedule, and counts them.
-pub(crate) fn count_actions<D: Driver>(
-    objects: &mut Objects<D>,
-    schedule: &[(Actor, Action)],
-) -> Counts
+pub(crate) fn count_actions<D: Driver>(objects: &mut Objects<D>, schedule: &Schedule) -> Counts
     requires sound { IsSound (state_of objects.old) }
     requires schedule { IsValidSchedule (state_of objects.old).script.settings schedule.now }
     requires first { D.served Rr ≡ true }
@@ -59,7 +56,7 @@ pub(crate) fn count_actions<D: Driver>(
         skipped: 0,
     };
     for i in 0..schedule.len() {
-        let (who, action) = schedule[i];
+        let (who, action) = schedule.row(i);
         let stepped = step(objects, &mut polls, who, &action);
         counts = with_one(counts, &stepped);
     }

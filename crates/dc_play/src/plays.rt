@@ -74,7 +74,7 @@ pub fn play_out<D: Driver>(objects: &mut Objects<D>, schedule: &Schedule)
     ensures state { state_of objects.new ≡ (core_run_from (state_of objects.old) schedule.now).state }
     ensures sound { IsSound (state_of objects.new) }
 {
-    count_actions(objects, schedule.as_slice());
+    count_actions(objects, schedule);
 }
 
 /// Plays a schedule on the machine of an image and a script from its start, and writes the journal and the report, one line a piece. Memory is taken before

@@ -10,12 +10,13 @@ ghost use Rattle.dc_play.specs.ReportLines.{lines_text};
 ghost use Rattle.dc_play.specs.Written.{Writes};
 
 use crate::lines::word_line;
-use crate::writing::put_line;
+use crate::writing::{put_ended, put_line};
 use dc_io::{Failed, Sink};
-use dc_journal::report_line;
+use dc_journal::push_report_line;
 use dc_kernel::Driver;
 use dc_machine::Objects;
 use dc_report::Report;
+use dc_text::Line;
 
 /// Writes the lines of the report, one by one.
 fn write_lines<D: Driver, S: Sink>(objects: &Objects<D>, sink: &mut S) -> Result<(), Failed>
@@ -25,8 +26,11 @@ fn write_lines<D: Driver, S: Sink>(objects: &Objects<D>, sink: &mut S) -> Result
     ensures grows { S.faults sink.old ≤ S.faults sink.new }
 {
     let mut report = Report::start();
+    let mut text = Line::new();
     while let Some(line) = report.next(objects) {
-        match put_line(sink, report_line(&line)) {
+        text.clear();
+        push_report_line(&mut text, &line);
+        match put_ended(sink, &mut text) {
             Ok(()) => {}
             Err(failed) => return Err(failed),
         }

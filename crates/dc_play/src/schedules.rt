@@ -13,23 +13,25 @@ ghost use Rattle.dc_objects.specs.States.{state_of};
 ghost use Rattle.dc_play.specs.Played.{PlaysTo};
 ghost use Rattle.dc_play.specs.Written.{Writes};
 
-use crate::writing::put_line;
+use crate::writing::put_ended;
 use dc_base::actions::{Action, Actor};
 use dc_base::numbers::Ticket;
 use dc_io::{Failed, Sink};
-use dc_journal::entry_line;
+use dc_journal::push_entry;
 use dc_kernel::Driver;
 use dc_machine::{Objects, Stepped, step};
 use dc_script::Schedule;
 use dc_sound::sound_keeps;
+use dc_text::Line;
 
-/// Makes an action and writes its entry, and says whether it made one.
+/// Makes an action and writes its entry with the help of a lent line, and says whether it made one.
 fn play_action<D: Driver, S: Sink>(
     objects: &mut Objects<D>,
     polls: &mut u32,
     ticket: u64,
     who: Actor,
     action: &Action,
+    text: &mut Line,
     sink: &mut S,
 ) -> Result<bool, Failed>
     requires sound { IsSound (state_of objects.old) }
@@ -44,10 +46,14 @@ fn play_action<D: Driver, S: Sink>(
     ensures grows { S.faults sink.old ≤ S.faults sink.new }
 {
     match step(objects, polls, who, action) {
-        Stepped::Did(entry) => match put_line(sink, entry_line(Ticket(ticket), &entry)) {
-            Ok(()) => Ok(true),
-            Err(failed) => Err(failed),
-        },
+        Stepped::Did(entry) => {
+            text.clear();
+            push_entry(text, Ticket(ticket), &entry);
+            match put_ended(sink, text) {
+                Ok(()) => Ok(true),
+                Err(failed) => Err(failed),
+            }
+        }
         _ => Ok(false),
     }
 }
@@ -73,8 +79,10 @@ pub(crate) fn play_schedule<D: Driver, S: Sink>(
     let mut polls = 0;
     let mut ticket = 0;
     let mut skipped = 0;
-    for line in schedule.as_slice() {
-        match play_action(objects, &mut polls, ticket, line.0, &line.1, sink) {
+    let mut text = Line::new();
+    for at in 0..schedule.len() {
+        let (who, action) = schedule.row(at);
+        match play_action(objects, &mut polls, ticket, who, &action, &mut text, sink) {
             Ok(made) => {
                 if made {
                     ticket += 1;

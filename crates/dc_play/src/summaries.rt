@@ -42,7 +42,7 @@ pub fn play_summary<D: Driver>(
 {
     the_start_is_sound();
     let mut objects = objects::<D>(alloc, image, script)?;
-    let counts = count_actions(&mut objects, schedule.as_slice());
+    let counts = count_actions(&mut objects, schedule);
     let consoles = objects.consoles.as_slice();
     Ok(Summary {
         entries: counts.entries,

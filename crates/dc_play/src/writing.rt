@@ -17,7 +17,17 @@ pub fn put_line<S: Sink>(sink: &mut S, line: Line) -> Result<(), Failed>
     ensures grows { S.faults sink.old ≤ S.faults sink.new }
 {
     let mut line = line;
-    line.push('\n');
+    put_ended(sink, &mut line)
+}
+
+/// Puts a lent line of at most 255 bytes with its newline, which it then has.
+pub(crate) fn put_ended<S: Sink>(sink: &mut S, line: &mut Line) -> Result<(), Failed>
+    requires { array_string_len line.old < 256 }
+    ensures writes { Writes (S.told sink.old) (S.told sink.new) (ended line.old.bytes) result }
+    ensures failed { OnErr result (Rose (S.faults sink.old) (S.faults sink.new)) }
+    ensures grows { S.faults sink.old ≤ S.faults sink.new }
+{
+    line.push_str("\n");
     put_all(sink, line.as_str().as_bytes())
 }
 

@@ -1,3 +1,4 @@
+mod ShortLines
 mod Rows
 mod Counting
 mod Validity

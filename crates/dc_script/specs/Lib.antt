@@ -1,2 +1,3 @@
+pub mod Shorts
 pub mod Words
 pub mod Texts

@@ -10,6 +10,7 @@ ghost use Rattle.dc_base.specs.Valid.{IsValidSchedule};
 ghost use Rattle.dc_script.specs.Texts.{AreBounds};
 ghost use Rattle.dc_script.specs.Words.{texts_of};
 
+use crate::lists::Schedule;
 use crate::texts::{Row, read_text};
 use crate::values::{read_block, read_core, read_disp, read_line};
 use crate::words::Words;
@@ -17,11 +18,7 @@ use dc_base::actions::{Action, Actor};
 use dc_base::commands::Bounds;
 use dc_base::faults::{TextFault, TextKind};
 use dc_base::limits::LONGEST_SCHEDULE;
-use dc_base::lists::Items;
 use std::alloc::Global;
-
-/// The lines of a schedule that count, in order: who acts, and what it does.
-pub type Schedule = Items<(Actor, Action)>;
 
 /// An action of a core that has no further words.
 fn alone(
@@ -122,5 +119,5 @@ pub fn read_schedule(alloc: Global, bytes: &[u8], bounds: Bounds) -> Result<Sche
     // Only want of memory is not the text's.
     ensures refused { IfErr result (λ fault. (fault ≡ TextFault.Memory) ⊎ (spec.schedule_of bounds bytes.now ≡ Err fault)) }
 {
-    read_text(alloc, bytes, bounds, LONGEST_SCHEDULE)
+    read_text::<(Actor, Action), Schedule>(alloc, bytes, bounds, LONGEST_SCHEDULE)
 }

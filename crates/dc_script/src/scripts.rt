@@ -74,5 +74,5 @@ pub fn read_script(alloc: Global, bytes: &[u8], bounds: Bounds) -> Result<Script
     // Only want of memory is not the text's.
     ensures refused { IfErr result (λ fault. (fault ≡ TextFault.Memory) ⊎ (spec.script_of bounds bytes.now ≡ Err fault)) }
 {
-    read_text(alloc, bytes, bounds, LONGEST_SCRIPT)
+    read_text::<ScriptLine, Script>(alloc, bytes, bounds, LONGEST_SCRIPT)
 }

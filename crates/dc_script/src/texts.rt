@@ -7,12 +7,12 @@ ghost use Rattle.dc_base.specs.ScriptText.{text_read, counted_from, lines_read};
 ghost use Rattle.dc_text.specs.Places.{texts_at, IsPlaceIn};
 ghost use Rattle.dc_script.specs.Texts.{is_comment, counted_words, AddsLine};
 
+use crate::found::Found;
 use crate::words::Words;
 use arrayvec::ArrayVec;
 use dc_base::commands::Bounds;
 use dc_base::faults::{TextFault, TextKind};
 use dc_base::limits::LONGEST_FILE;
-use dc_base::lists::Items;
 use dc_text::{first_line, words};
 use std::alloc::Global;
 
@@ -52,23 +52,23 @@ fn counted(line: &[u8]) -> ArrayVec<(u32, u32), 16>
 
 /// Reads a line, and adds what it says.
 #[tactic(auto, using(crate::proofs::Counting::skips, crate::proofs::Counting::too_many, crate::proofs::Counting::refuses, crate::proofs::Counting::adds))]
-fn add_line<T: Row>(
-    found: &mut Items<T>,
+fn add_line<T: Row, F: Found<T>>(
+    found: &mut F,
     bounds: Bounds,
     limit: usize,
     line: &[u8],
     number: u32,
 ) -> Result<(), TextFault>
     requires long { length line.now < 2 ^ 32 }
-    requires few { length found.old ≤ limit }
-    ensures added { AddsLine (T.line_read bounds) limit found.old found.new number line.now result }
-    ensures few { OnOk result (length found.new ≤ limit) }
+    requires few { length (F.listed found.old) ≤ limit }
+    ensures added { AddsLine (T.line_read bounds) limit (F.listed found.old) (F.listed found.new) number line.now result }
+    ensures few { OnOk result (length (F.listed found.new) ≤ limit) }
 {
     let places = counted(line);
     let Some((name, words)) = Words::at(line, places.as_slice()).split_first() else {
         return Ok(());
     };
-    if found.len() >= limit {
+    if found.room(limit) == 0 {
         return Err(TextFault::Bad {
             line: number,
             kind: TextKind::TooMany,
@@ -78,32 +78,32 @@ fn add_line<T: Row>(
         Ok(row) => row,
         Err(kind) => return Err(TextFault::Bad { line: number, kind }),
     };
-    match found.push(row) {
+    match found.add(row) {
         Ok(()) => Ok(()),
         Err(_) => Err(TextFault::Memory),
     }
 }
 
 /// What the lines of a text say.
-fn read_lines<T: Row>(
+fn read_lines<T: Row, F: Found<T>>(
     alloc: Global,
     text: &[u8],
     bounds: Bounds,
     limit: usize,
-) -> Result<Items<T>, TextFault>
+) -> Result<F, TextFault>
     requires { length text.now ≤ longest_file }
     ensures lines { let lines = counted_from 1 (lines_of text.now) in
-        IfOk result (λ found. lines_read (T.line_read bounds) limit lines ≡ Ok found) }
+        IfOk result (λ found. lines_read (T.line_read bounds) limit lines ≡ Ok (F.listed found)) }
     ensures fault { let lines = counted_from 1 (lines_of text.now) in
         IfErr result (λ e. (e ≡ TextFault.Memory) ⊎ (lines_read (T.line_read bounds) limit lines ≡ Err e)) }
 {
-    let mut found = Items::new(alloc);
+    let mut found = F::none(alloc);
     let mut number = 0;
     let mut rest = Some(text);
     while let Some(text) = rest {
         let (line, further) = first_line(text);
         number += 1;
-        add_line(&mut found, bounds, limit, line, number)?;
+        add_line::<T, F>(&mut found, bounds, limit, line, number)?;
         rest = further;
     }
     Ok(found)
@@ -111,17 +111,17 @@ fn read_lines<T: Row>(
 
 /// What a text says, line by line, with at most so many lines that count.
 #[tactic(auto, unfolding(dc_base::specs::ScriptText::text_read))]
-pub(crate) fn read_text<T: Row>(
+pub(crate) fn read_text<T: Row, F: Found<T>>(
     alloc: Global,
     text: &[u8],
     bounds: Bounds,
     limit: usize,
-) -> Result<Items<T>, TextFault>
-    ensures lines { IfOk result (λ found. text_read (T.line_read bounds) limit text.now ≡ Ok found) }
+) -> Result<F, TextFault>
+    ensures lines { IfOk result (λ found. text_read (T.line_read bounds) limit text.now ≡ Ok (F.listed found)) }
     ensures fault { IfErr result (λ e. (e ≡ TextFault.Memory) ⊎ (text_read (T.line_read bounds) limit text.now ≡ Err e)) }
 {
     if text.len() > LONGEST_FILE {
         return Err(TextFault::TooLong);
     }
-    read_lines(alloc, text, bounds, limit)
+    read_lines::<T, F>(alloc, text, bounds, limit)
 }

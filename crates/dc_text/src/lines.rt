@@ -1,9 +1,10 @@
-ghost use Rattle.std.specs.Prelude.{◌≡◌, ◌+◌, ◌<◌, ◌≤◌, ◌^◌, [], ◌∷◌, ◌++◌, length, decimal};
+ghost use Rattle.std.specs.Prelude.{◌≡◌, ◌+◌, ◌<◌, ◌≤◌, ◌++◌, length, decimal};
 ghost use Rattle.arrayvec.specs.ArrayString.{array_string_len};
 ghost use Rattle.dc_base.specs.TextWords.{add_word};
 ghost use Rattle.dc_text.specs.Lines.{len_with_word};
 
 use arrayvec::ArrayString;
+use itoa::Buffer;
 
 /// A line of a text, without its newline: at most 256 bytes.
 pub type Line = ArrayString<256>;
@@ -52,40 +53,11 @@ pub fn push_u64(line: &mut Line, n: u64)
     push_number(line, n as u128);
 }
 
-/// Adds the digits of a number.
-#[tactic(auto, using(crate::proofs::Digits::more_digits, crate::proofs::Digits::more_len))]
+/// Adds the digits of a number, all at once.
 pub(crate) fn push_digits(line: &mut Line, n: u128)
     requires { array_string_len line.old + length (decimal n) ≤ 256 }
     ensures { line.new.bytes ≡ line.old.bytes ++ decimal n }
 {
-    if n <= u64::MAX as u128 {
-        push_small(line, n as u64);
-    } else {
-        push_digits(line, n / 10);
-        push_digit(line, (n % 10) as u8);
-    }
-}
-
-/// Adds the digits of a number of 64 bits, which divides faster.
-#[tactic(auto, using(crate::proofs::Digits::one_digit, crate::proofs::Digits::more_digits, crate::proofs::Digits::one_len, crate::proofs::Digits::more_len))]
-fn push_small(line: &mut Line, n: u64)
-    requires { array_string_len line.old + length (decimal n) ≤ 256 }
-    ensures { line.new.bytes ≡ line.old.bytes ++ decimal n }
-{
-    if n < 10 {
-        push_digit(line, n as u8);
-    } else {
-        push_small(line, n / 10);
-        push_digit(line, (n % 10) as u8);
-    }
-}
-
-/// Adds a digit.
-#[tactic(auto, using(crate::proofs::Digits::digit_len))]
-fn push_digit(line: &mut Line, digit: u8)
-    requires one { digit < 10 }
-    requires room { array_string_len line.old < 256 }
-    ensures { line.new.bytes ≡ line.old.bytes ++ (48 + digit) ∷ [] }
-{
-    line.push((b'0' + digit) as char);
+    let mut digits = Buffer::new();
+    line.push_str(digits.format(n));
 }

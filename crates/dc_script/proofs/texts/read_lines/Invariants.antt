@@ -8,8 +8,8 @@ use Rattle.dc_script.proofs.texts.read_lines.Given as goal
 -- what was found, and what the rest says behind it, is what the text says
 abbrev pub invariant-loop-rest : goal.invariant-loop-rest
 invariant-loop-rest g l = record {
-  told : said_from (g.T.Row.line_read l.bounds) l.limit l.found (l.number + 1) (lines_left l.rest) ≡ lines_read (g.T.Row.line_read l.bounds) l.limit (counted_from 1 (lines_of l.fn.text));
-  few : length l.found ≤ l.limit;
+  told : said_from (g.T.Row.line_read l.bounds) l.limit (g.F.Found.listed l.found) (l.number + 1) (lines_left l.rest) ≡ lines_read (g.T.Row.line_read l.bounds) l.limit (counted_from 1 (lines_of l.fn.text));
+  few : length (g.F.Found.listed l.found) ≤ l.limit;
   room : l.number + most_left l.rest ≤ length l.fn.text + 1;
 }
 
