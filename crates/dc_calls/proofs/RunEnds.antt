@@ -25,7 +25,7 @@ use Rattle.dc_calls.specs.declared.outsides.Outside.TheVariants as outside
 use Rattle.dc_calls.specs.Outsides.{outside_seen, Fits}
 use Rattle.dc_calls.specs.Slices.{sliced_seen}
 
-abbrev stopped_as : DispNo → ℕ → ℕ → End → Sliced
+abbrev pub stopped_as : DispNo → ℕ → ℕ → End → Sliced
 stopped_as d fired ran e = record { disp = Some d; fired = fired; ran = ran; end = e; advance = max ran 1 }
 
 module _ (v : Version) (no : DispNo) (fired time c n : ℕ) (b : ControlBlock) (a : plain.Ahead) (new : ControlBlock) (s : Sliced) (out : Outside) where

@@ -6,8 +6,6 @@ use Rattle.std.proofs.lemmas.List.{length-map}
 use Rattle.std.proofs.lemmas.Option.{slice_get-map, slice_get-get_or}
 use Rattle.dc_base.specs.Ahead as plain
 use Rattle.dc_base.specs.Effects.{Context}
-use Rattle.dc_exec.specs.declared.ends.Ahead.{Ahead}
-use Rattle.dc_exec.specs.Slices.{ahead_seen}
 
 -- what an index gives is at that place
 pub found : {A B : Type 0} (f : A → B) (xs : List A) (ys : List B) (i : ℕ) (v : A) → map f xs ≡ ys → i < length ys → v ≡ slice_index_or xs i v → slice_get ys i ≡ Some (f v)
@@ -16,8 +14,11 @@ found {B = B} f xs ys i v same within e =
     ap (λ zs. slice_get zs i) (sym same) ∙ (slice_get-map f xs i ∙ ap (option_map f) (slice_get-get_or xs i v inside ∙ ap Some (sym e)))
 
 -- the plain part of the same code, context and memory
-pub ahead_of_same : (time quantum : ℕ) (a : Ahead) (m m' code code' : List ℕ) (x x' : Context) → m ≡ m' → code ≡ code' → x ≡ x' → ahead_seen m a ≡ plain.ahead time code quantum x m → ahead_seen m' a ≡ plain.ahead time code' quantum x' m'
-ahead_of_same time quantum a m m' code code' x x' p q r e =
-    subst (λ m. ahead_seen m a ≡ plain.ahead time code' quantum x' m) p
-    (subst (λ code. ahead_seen m a ≡ plain.ahead time code quantum x' m) q
-    (subst (λ x. ahead_seen m a ≡ plain.ahead time code quantum x m) r e))
+pub ahead_of_same : (time quantum : ℕ) (m m' code code' : List ℕ) (x x' : Context) → m ≡ m' → code ≡ code' → x ≡ x' → plain.ahead time code quantum x m ≡ plain.ahead time code' quantum x' m'
+ahead_of_same time quantum m m' code code' x x' p q r =
+    ap (λ m. plain.ahead time code quantum x m) p
+    ∙ (ap (λ code. plain.ahead time code quantum x m') q
+    ∙ ap (λ x. plain.ahead time code' quantum x m') r)
+
+pub end_of_same : (time quantum : ℕ) (m m' code code' : List ℕ) (x x' : Context) → m ≡ m' → code ≡ code' → x ≡ x' → (plain.ahead time code quantum x m).end ≡ (plain.ahead time code' quantum x' m').end
+end_of_same time quantum m m' code code' x x' p q r = ap (λ (a : plain.Ahead). a.end) (ahead_of_same time quantum m m' code code' x x' p q r)

@@ -215,6 +215,7 @@ impl<R: ReadyList, T: TimerQueue> Agenda<R, T> {
     }
 
     /// The same, found on a copy. It stands apart, so that the room of the copy is not cleared where no timer is due.
+    #[inline(never)]
     fn pick_fired(&self, time: u64) -> Option<DispNo>
         requires named { Each self.now.timers (λ i (t : Armed). t.signal.0 < length self.now.signals) }
         requires room { length self.now.timers ≤ 64 }

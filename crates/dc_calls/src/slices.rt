@@ -17,15 +17,14 @@ ghost use Rattle.dc_base.specs.Policies.{pick};
 ghost use Rattle.dc_base.specs.Ports.{latch_at, how_latched};
 ghost use Rattle.dc_base.specs.Wakes.{ready_again};
 ghost use Rattle.dc_base.specs.Kernel.{call_of};
-ghost use Rattle.dc_base.specs.Slices.{ready_last, with_state, due_after, with_due, after_ahead, after_served, need_of, slice_end};
+ghost use Rattle.dc_base.specs.Slices.{ready_last, with_state, without_ready, due_after, with_due, after_ahead, after_served, need_of, slice_end};
 ghost use Rattle.dc_base.specs.Serving.{need as need_of_call, serve};
 ghost use Rattle.dc_exec.specs.Calls.{call_name as name_of, is_proper_call};
-ghost use Rattle.dc_exec.specs.Ends.{end_seen};
-ghost use Rattle.dc_exec.specs.Slices.{ahead_seen};
+ghost use Rattle.dc_exec.specs.Ends.{end_seen, is_proper_end};
 ghost use Rattle.dc_block_sound.specs.SoundControls.{IsSoundControl};
 ghost use Rattle.dc_calls.specs.Outsides.{outside_seen, HasRoom, Fits};
 ghost use Rattle.dc_calls.specs.Serves.{IsRunning, Serves};
-ghost use Rattle.dc_calls.specs.Slices.{after_plain, half_of, sliced_seen};
+ghost use Rattle.dc_calls.specs.Slices.{IsRun, half_of, sliced_seen};
 
 use crate::answers::Answer;
 use crate::forms::Form;
@@ -36,8 +35,8 @@ use dc_base::dispatchers::{DispState, Wait};
 use dc_base::interrupts::{Latch, Latched};
 use dc_base::kernels::Version;
 use dc_base::numbers::{BlockNo, CoreNo, DispNo, SignalNo};
-use dc_exec::{Ahead, AheadEnd, ahead, apply, call_name};
-use dc_isa::{Dispatcher, Instr};
+use dc_exec::{AheadEnd, Ran, call_name, end_ahead, run};
+use dc_isa::Instr;
 use dc_ready::ReadyList;
 use dc_timers::TimerQueue;
 
@@ -61,6 +60,13 @@ impl<R: ReadyList, T: TimerQueue> Form<R, T> {
         ensures { record { control = self.new; count = result } ≡ fire_all time self.old }
     {
         self.agenda.fire(time)
+    }
+
+    /// The dispatcher that runs next.
+    pub fn pick(&self) -> Option<DispNo>
+        ensures { option_map (λ (d : Disp). d.0) result ≡ pick R.policy self.now.dues self.now.ready }
+    {
+        self.agenda.pick()
     }
 
     /// The dispatcher that runs next once all due timers have fired.
@@ -89,37 +95,50 @@ impl<R: ReadyList, T: TimerQueue> Form<R, T> {
     }
 
     /// The object outside the block that the call needs at which the plain part ends.
-    pub fn need_after(&self, d: DispNo, ahead: &Ahead) -> Need
-        requires { d.0 < length self.now.states }
-        ensures { (time : ℕ) (x : ControlBlock) (a : plain.Ahead) → x.parts.caps ≡ self.now.parts.caps → end_seen ahead.now.end ≡ a.end → result ≡ need_of (after_ahead time x d.0 a a.end) }
+    pub fn need_after(&self, d: DispNo, end: &AheadEnd) -> Need
+        requires there { d.0 < length self.now.states }
+        requires proper { IsTrue (is_proper_end end.now) }
+        ensures { (time : ℕ) (x : ControlBlock) (a : plain.Ahead) → x.parts.caps ≡ self.now.parts.caps → end_seen end.now ≡ a.end → result ≡ need_of (after_ahead time x d.0 a a.end) }
     {
-        match ahead.end {
+        match end {
             AheadEnd::Quantum => Need::Nothing,
             AheadEnd::Halt => Need::Nothing,
             AheadEnd::Trap(_) => Need::Nothing,
-            AheadEnd::Call(instr) => self.need(d, &instr),
+            AheadEnd::Call(instr) => self.need(d, instr),
         }
     }
 
-    /// The plain part of a slice of the dispatcher.
-    pub fn ahead(&self, d: DispNo, time: u64, quantum: u32) -> Ahead
+    /// How the plain part of a slice of the dispatcher would end. Nothing changes.
+    pub fn end_ahead(&self, d: DispNo, time: u64, quantum: u32) -> AheadEnd
         requires sound { IsSoundControl self.now }
         requires there { d.0 < length self.now.states }
-        requires some { 0 < quantum }
         requires quantum { quantum ≤ 64 }
-        ensures { (code : List ℕ) (x : Context) → slice_get self.now.parts.code d.0 ≡ Some code → slice_get self.now.parts.contexts d.0 ≡ Some x → ahead_seen self.now.parts.memory result ≡ plain.ahead time code quantum x self.now.parts.memory }
+        ensures end { (code : List ℕ) (x : Context) → slice_get self.now.parts.code d.0 ≡ Some code → slice_get self.now.parts.contexts d.0 ≡ Some x → end_seen result ≡ (plain.ahead time code quantum x self.now.parts.memory).end }
+        ensures proper { IsTrue (is_proper_end result) }
     {
-        let disp = Dispatcher {
-            state: DispState::Ready,
-            ..self.agenda.disp(d)
-        };
-        ahead(
+        let disp = self.agenda.disp(d);
+        end_ahead(
             &disp,
             self.code[d.0 as usize].as_slice(),
             self.memory.as_slice(),
             time,
             quantum,
         )
+    }
+
+    /// Runs the plain part of a slice of the dispatcher, which stays in the ready list.
+    pub fn run_plain(&mut self, d: DispNo, time: u64, quantum: u32) -> Ran
+        requires sound { IsSoundControl self.old }
+        requires there { d.0 < length self.old.states }
+        requires quantum { quantum ≤ 64 }
+        ensures plain { (code : List ℕ) (x : Context) → slice_get self.old.parts.code d.0 ≡ Some code → slice_get self.old.parts.contexts d.0 ≡ Some x → IsRun d.0 self.old self.new result (plain.ahead time code quantum x self.old.parts.memory) }
+        ensures proper { IsTrue (is_proper_end result.end) }
+    {
+        let mut disp = self.agenda.disp(d);
+        let code = self.code[d.0 as usize].as_slice();
+        let ran = run(&mut disp, code, &mut self.memory, time, quantum);
+        self.agenda.go_to(d, disp.regs, disp.place);
+        ran
     }
 
     /// All that wait so become ready, if any.
@@ -166,57 +185,54 @@ impl<R: ReadyList, T: TimerQueue> Form<R, T> {
         self.grow_due(d);
     }
 
-    /// What the plain part did becomes so.
-    fn run_plain(&mut self, d: DispNo, ahead: &Ahead)
-        requires there { d.0 < length self.old.states }
-        requires memory { length self.old.parts.memory ≡ 4096 }
-        ensures { self.new ≡ after_plain d.0 self.old ahead.now }
+    /// The dispatcher goes out of the ready list.
+    fn take_out(&mut self, d: DispNo)
+        ensures { self.new ≡ without_ready d.0 self.old }
     {
         self.agenda.take_out(d);
-        apply(self.memory.as_mut_slice(), ahead);
-        self.agenda.go_to(d, ahead.disp.regs, ahead.disp.place);
     }
 
-    /// A slice of the dispatcher that was picked, once all due timers have fired.
-    pub fn run(
+    /// The end of a slice of the dispatcher, whose plain part has run.
+    pub fn end_slice(
         &mut self,
         d: DispNo,
         fired: u32,
-        ahead: &Ahead,
+        part: &Ran,
         time: u64,
         core: CoreNo,
         block: BlockNo,
         outside: &mut Outside,
     ) -> Sliced
-        requires running { IsRunning d.0 (after_plain d.0 self.old ahead.now) }
+        requires running { IsRunning d.0 (without_ready d.0 self.old) }
         requires dues { Each self.old.dues (λ d due. due < 2 ^ 63) }
         requires timers { self.old.parts.next_timer < 2 ^ 32 - 1 }
         requires time { time < 2 ^ 63 }
-        requires outside { Fits (need_of (half_of time d.0 self.old ahead.now)) outside.old }
         requires room { HasRoom outside.old }
-        requires ran { ahead.now.ran ≤ 64 }
-        ensures slice { let h = half_of time d.0 self.old ahead.now in sliced_seen self.new result (need_of h) (outside_seen outside.new) ≡ slice_end core.0 block.0 R.policy d.0 h (outside_seen outside.old) }
+        requires ran { part.now.ran ≤ 64 }
+        requires proper { IsTrue (is_proper_end part.now.end) }
+        ensures slice { (x : ControlBlock) (a : plain.Ahead) → IsRun d.0 x self.old part.now a → let h = half_of time d.0 x a in
+            Fits (need_of h) outside.old → sliced_seen self.new result (need_of h) (outside_seen outside.new) ≡ slice_end core.0 block.0 R.policy d.0 h (outside_seen outside.old) }
         ensures disp { result.disp ≡ Some d }
         ensures fired { result.fired ≡ fired }
-        ensures kind { Fits (need_of (half_of time d.0 self.old ahead.now)) outside.new }
+        ensures kind { (n : Needed) → Fits n outside.old → Fits n outside.new }
     {
-        self.run_plain(d, ahead);
-        match ahead.end {
+        self.take_out(d);
+        match &part.end {
             AheadEnd::Quantum => {
                 self.stay_ready(d);
-                stopped(d, fired, ahead.ran, End::Quantum)
+                stopped(d, fired, part.ran, End::Quantum)
             }
             AheadEnd::Halt => {
                 self.stand(d, DispState::Halted);
-                stopped(d, fired, ahead.ran, End::Halt)
+                stopped(d, fired, part.ran, End::Halt)
             }
             AheadEnd::Trap(x) => {
-                self.stand(d, DispState::Trapped(x));
-                stopped(d, fired, ahead.ran, End::Trap(x))
+                self.stand(d, DispState::Trapped(*x));
+                stopped(d, fired, part.ran, End::Trap(*x))
             }
-            AheadEnd::Call(instr) => self.serve(
-                d, fired, ahead.ran, &instr, time, core, block, outside,
-            ),
+            AheadEnd::Call(instr) => {
+                self.serve(d, fired, part.ran, instr, time, core, block, outside)
+            }
         }
     }
 

@@ -1,9 +1,8 @@
 -- A memory after one more change.
-use Rattle.std.proofs.Common.{◌≡◌, ◌≢◌, ℕ, ◌+◌, ◌-◌, ◌<◌, ◌≤◌, List, [], ◌∷◌, ◌++◌, length, take, get_or, zero, suc, Bool, false, rules, refl, ap, sym, ◌∙◌, arith, true, get_or-set_other, get_or-set_same, length-set}
-use Rattle.std.specs.Prelude.{slice_index, slice_set, IsTrue, nat_lt, ◌&&◌}
+use Rattle.std.proofs.Common.{◌≡◌, ◌≢◌, ℕ, ◌+◌, ◌-◌, ◌<◌, ◌≤◌, List, [], ◌∷◌, ◌++◌, length, take, get_or, refl, ap, sym, ◌∙◌, arith, get_or-set_other, get_or-set_same, length-set}
+use Rattle.std.specs.Prelude.{slice_index, slice_set}
 use Rattle.std.proofs.lemmas.List.{take_more}
-use Rattle.std.proofs.lemmas.Bool.{ltb-true}
-use Rattle.dc_exec.specs.Changes.{Change, with_changes, are_below}
+use Rattle.dc_exec.specs.Changes.{Change, with_changes}
 
 pub with_changes-push : (memory : List ℕ) (cs : List Change) (c : Change) → with_changes memory (cs ++ c ∷ []) ≡ slice_set (with_changes memory cs) c.0 c.1
 with_changes-push memory [] c = refl
@@ -39,17 +38,3 @@ module _ (memory : List ℕ) (cs : List Change) (i address value : ℕ) (some : 
   pub older_counts : (get_or cs (i - 1) (0, 0)).0 ≢ address → slice_index (with_changes memory (take (i - 1) cs)) address ≡ value
   unfolding last before
   older_counts other = sym (get_or-set_other before last.0 address last.1 0 (λ e. other (sym e))) ∙ sym (ap (λ m. slice_index m address) is_last) ∙ told
-
-and_true : (a b : Bool) → (a && b) ≡ true → (a ≡ true) × (b ≡ true)
-and_true true b h = (refl, h)
-and_true false b h = absurd (let bad : false ≡ true = h in cc)
-
--- a change of a list whose addresses are below this one
-pub below_at : (end : ℕ) (cs : List Change) (i : ℕ) → IsTrue (are_below end cs) → i < length cs → (get_or cs i (0, 0)).0 < end
-below_at end [] i h within = absurd (omega (arith, within))
-below_at end (c ∷ cs) zero h within =
-    let both : (nat_lt c.0 end ≡ true) × (are_below end cs ≡ true) = and_true (nat_lt c.0 end) (are_below end cs) (search (rules, h)) in
-    ltb-true c.0 end both.0
-below_at end (c ∷ cs) (suc i) h within =
-    let both : (nat_lt c.0 end ≡ true) × (are_below end cs ≡ true) = and_true (nat_lt c.0 end) (are_below end cs) (search (rules, h)) in
-    below_at end cs i (search (rules, both.1)) (omega (arith, within))

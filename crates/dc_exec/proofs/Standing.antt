@@ -1,5 +1,5 @@
 -- What the instruction at a place does.
-use Rattle.std.proofs.Common.{◌≡◌, ℕ, ◌+◌, ◌<◌, ◌≤◌, Bool, true, false, Option, Some, None, List, refl, ap, sym, ◌∙◌, rules, is_some, length, lit≤, if◌then◌else◌}
+use Rattle.std.proofs.Common.{◌≡◌, ℕ, ◌+◌, ◌<◌, ◌≤◌, Bool, true, false, Option, Some, None, List, refl, ap, sym, ◌∙◌, rules, is_some, length, if◌then◌else◌}
 use Rattle.std.specs.Prelude.{slice_get, slice_index, slice_set, IsTrue, ◌==◌, not, nat_lt}
 use Rattle.dc_base.specs.declared.instructions.Instr.{Instr}
 use Rattle.dc_base.specs.declared.instructions.Instr.TheVariants.{Beq, Bne, Bltu, Ld, St, Out}
@@ -8,11 +8,9 @@ use Rattle.dc_base.specs.Instructions.{is_proper, decode}
 use Rattle.dc_base.specs.Effects.{Context, Move, goes, traps, calls, effect, effect_of, move_at, act, reg, sets, at_next_place}
 use Rattle.dc_base.specs.Ahead.{at_quantum, last_look}
 use Rattle.dc_isa.specs.declared.dispatchers.Dispatcher.{Dispatcher}
-use Rattle.dc_exec.specs.Changes.{Overlay, memory_of}
 use Rattle.dc_exec.specs.Calls.{call_name, end_at, end_at_call}
-use Rattle.dc_base.specs.Words.{bind}
-use Rattle.dc_exec.specs.Steps.{context_of, Goes, stores_of}
-use Rattle.dc_exec.specs.Turns.{Stands, GoesOn, stores_if_any, stores_at}
+use Rattle.dc_exec.specs.Steps.{context_of, Goes}
+use Rattle.dc_exec.specs.Turns.{Stands, GoesOn}
 
 -- a call does nothing by itself
 pub effect-call : (i : Instr) (o : Op) (time : ℕ) (c : Context) (memory : List ℕ) → call_name i ≡ Some o → effect time c memory i ≡ calls o i
@@ -53,9 +51,6 @@ module _ (time : ℕ) (code : List ℕ) (c : Context) (memory : List ℕ) (w : �
     unfolding act
     act-instr = ap (move_at time c memory) there ∙ ap (effect_of time c memory) is
 
-    pub stores_at-instr : stores_at code c ≡ stores_if_any c (Some i)
-    stores_at-instr = rw (there, is) refl
-
     pub last_look-act-plain : is_some (call_name i) ≡ false → last_look (act time code c memory) ≡ at_quantum
     last_look-act-plain plain = ap last_look act-instr ∙ last_look-plain i time c memory (none_of i plain)
 
@@ -76,27 +71,14 @@ stands time code d memory w there i is call proper within =
       place = within;
     }
 
-pub goes_on : (time : ℕ) (code : List ℕ) (d d' : Dispatcher) (o o' : Overlay) (w : ℕ) → slice_get code d.place ≡ Some w → (i : Instr) → decode w ≡ Some i →
-    Goes d d' o o' i (effect time (context_of d) (memory_of o) i) → d'.place ≤ 65535 → GoesOn d d' o o' code (act time code (context_of d) (memory_of o))
-goes_on time code d d' o o' w there i is g low = record {
-  move = act-instr time code (context_of d) (memory_of o) w there i is ∙ g.move;
+pub goes_on : (time : ℕ) (code : List ℕ) (d d' : Dispatcher) (memory memory' : List ℕ) (w : ℕ) → slice_get code d.place ≡ Some w → (i : Instr) → decode w ≡ Some i →
+    Goes d d' memory' (effect time (context_of d) memory i) → d'.place ≤ 65535 → GoesOn d d' memory' (act time code (context_of d) memory)
+goes_on time code d d' memory memory' w there i is g low = record {
+  move = act-instr time code (context_of d) memory w there i is ∙ g.move;
   same = g.same;
-  stores = rw (stores_at-instr time code (context_of d) (memory_of o) w there i is) g.stores;
   place = low;
 }
 
 pub act-past : (time : ℕ) (code : List ℕ) (c : Context) (memory : List ℕ) → slice_get code c.place ≡ None → act time code c memory ≡ traps 2
 unfolding act
 act-past time code c memory past = ap (move_at time c memory) past
-
--- an instruction makes at most one store
-length-stores_of : (c : Context) (i : Instr) → length (stores_of c i) ≤ 1
-length-stores_of c (St a b imm) = lit≤ tt
-length-stores_of c i = lit≤ tt
-
-length-stores_if_any : (c : Context) (i : Option Instr) → length (stores_if_any c i) ≤ 1
-length-stores_if_any c None = lit≤ tt
-length-stores_if_any c (Some i) = length-stores_of c i
-
-pub length-stores_at : (code : List ℕ) (c : Context) → length (stores_at code c) ≤ 1
-length-stores_at code c = length-stores_if_any c (bind (slice_get code c.place) decode)

@@ -1,7 +1,5 @@
 -- How the plain part of a slice ends.
 use Rattle.std.specs.Prelude.{Bool, true}
-use Rattle.dc_base.specs.declared.dispatchers.DispState.{DispState}
-use Rattle.dc_base.specs.declared.dispatchers.DispState.TheVariants.{Halted}
 use Rattle.dc_base.specs.Ahead.{at_quantum, at_halt, at_trap}
 use Rattle.dc_base.specs.Ahead as spec
 use Rattle.dc_exec.specs.declared.ends.AheadEnd.{AheadEnd}
@@ -18,8 +16,3 @@ end_seen (end.Call i) = end_at_call i
 abbrev pub is_proper_end : AheadEnd → Bool
 is_proper_end (end.Call i) = is_proper_call i
 is_proper_end _ = true
-
--- the state of a dispatcher after that; one that trapped is still as it was
-abbrev pub state_after : AheadEnd → DispState → DispState
-state_after end.Halt state = Halted
-state_after _ state = state

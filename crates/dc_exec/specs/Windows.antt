@@ -1,7 +1,7 @@
 -- What a window's fields stand for.
-use Rattle.std.specs.Prelude.{◌≡◌, ◌≤◌, IsTrue, length}
+use Rattle.std.specs.Prelude.{◌≡◌, ◌≤◌, length}
 use Rattle.dc_exec.specs.declared.windows.Window.TheInside.{Inside}
-use Rattle.dc_exec.specs.Changes.{Overlay, are_below}
+use Rattle.dc_exec.specs.Changes.{Overlay}
 
 abbrev pub overlay_seen : Inside → Overlay
 overlay_seen w = record { below = w.words.now; changes = w.changes.items }
@@ -10,4 +10,3 @@ overlay_seen w = record { below = w.words.now; changes = w.changes.items }
 pub record IsWindow (w : Inside) : Type 0 where
   pub words : length w.words.now ≡ 4096
   pub room : length w.changes.items ≤ 64
-  pub addresses : IsTrue (are_below 4096 w.changes.items)

@@ -1,11 +1,6 @@
 //! How the plain part of a slice ends.
 
-ghost use Rattle.std.specs.Prelude.{◌≤◌, length, IsTrue};
-ghost use Rattle.dc_exec.specs.Changes.{are_below};
-ghost use Rattle.dc_exec.specs.Ends.{is_proper_end};
-
-use arrayvec::ArrayVec;
-use dc_isa::{Dispatcher, Instr};
+use dc_isa::Instr;
 
 /// How the plain part of a slice ended: after the quantum, after `halt`, before a trap, or before a kernel call.
 #[derive(Clone, Copy, Debug, PartialEq, Eq)]
@@ -16,15 +11,9 @@ pub enum AheadEnd {
     Call(Instr),
 }
 
-/// What the plain part of a slice does: the dispatcher after it, how many instructions ran,
-/// and each store that ran, in order, as its address and its word.
-#[derive(Drop)]
-pub struct Ahead {
-    pub disp: Dispatcher,
+/// How many instructions of the plain part of a slice ran, and how it ended.
+#[derive(Clone, Copy, Debug, PartialEq, Eq)]
+pub struct Ran {
     pub ran: u32,
-    pub changes: ArrayVec<(u32, u32), 64>,
     pub end: AheadEnd,
-    pub ghost room: { length changes.items ≤ 64 },
-    pub ghost addresses: { IsTrue (are_below 4096 changes.items) },
-    pub ghost proper: { IsTrue (is_proper_end end) },
 }

@@ -1,77 +1,68 @@
 //! The plain part of a slice.
 
-ghost use Rattle.std.specs.Prelude.{◌≡◌, ◌<◌, ◌≤◌, length, IsTrue};
+ghost use Rattle.std.specs.Prelude.{◌≡◌, ◌≤◌, length, IsTrue};
 ghost use Rattle.dc_base.specs.Ahead as spec;
-ghost use Rattle.dc_exec.specs.Changes.{are_below, with_changes};
-ghost use Rattle.dc_exec.specs.Ends.{is_proper_end};
-ghost use Rattle.dc_exec.specs.Steps.{IsLive, context_of};
-ghost use Rattle.dc_exec.specs.Slices.{IsSameDisp, IsWithin, ahead_seen, stores_ahead};
+ghost use Rattle.dc_exec.specs.Ends.{end_seen, is_proper_end};
+ghost use Rattle.dc_exec.specs.Steps.{context_of, with_context};
+ghost use Rattle.dc_exec.specs.Slices.{IsWithin, ran_seen};
 
-use crate::ends::{Ahead, AheadEnd};
+use crate::ends::{AheadEnd, Ran};
+use crate::memories::Memory;
 use crate::turns::{Turn, call_at, run_place};
 use crate::windows::Window;
 use dc_isa::Dispatcher;
 
-/// What was seen ahead, with the changes of the window.
-fn ended(disp: Dispatcher, ran: u32, mem: Window, end: AheadEnd) -> Ahead
-    requires { IsTrue (is_proper_end end) }
-    ensures disp { result.disp ≡ disp }
-    ensures ran { result.ran ≡ ran }
-    ensures changes { result.changes.items ≡ mem.entry.changes }
-    ensures end { result.end ≡ end }
-{
-    Ahead {
-        disp,
-        ran,
-        changes: mem.into_changes(),
-        end,
-    }
-}
-
-/// What the plain part of a slice of at most `quantum` instructions does. Nothing is changed.
-/// A trap is not in the state of the dispatcher yet.
-pub fn ahead(d: &Dispatcher, code: &[u32], mem: &[u32], time: u64, quantum: u32) -> Ahead
-    requires live { IsLive d.now.state }
+/// Runs the plain part of a slice of at most `quantum` instructions. A halt and a trap are not in the state of the dispatcher yet.
+#[inline(always)]
+pub fn run<M: Memory>(d: &mut Dispatcher, code: &[u32], mem: &mut M, time: u64, quantum: u32) -> Ran
     requires code { length code.now ≤ 1024 }
-    requires mem { length mem.now ≡ 4096 }
-    requires some { 0 < quantum }
-    requires quantum { quantum ≤ 64 }
-    ensures value { ahead_seen mem.now result ≡ spec.ahead time code.now quantum (context_of d.now) mem.now }
-    ensures stores { result.changes.items ≡ stores_ahead time code.now quantum (context_of d.now) mem.now }
-    ensures same { IsSameDisp d.now result }
-    ensures within { IsWithin d.now code.now quantum result }
+    requires mem { length (M.words mem.old) ≡ 4096 }
+    requires room { quantum ≤ M.room mem.old }
+    ensures value { ran_seen d.new (M.words mem.new) result ≡ spec.ahead time code.now quantum (context_of d.old) (M.words mem.old) }
+    ensures same { d.new ≡ with_context d.old (context_of d.new) }
+    ensures proper { IsTrue (is_proper_end result.end) }
+    ensures within { IsWithin d.old d.new code.now quantum result }
 {
-    let mut disp = *d;
-    let mut mem = Window::over(mem);
     for ran in 0..quantum {
-        match run_place(&mut disp, code, &mut mem, time) {
+        match run_place(d, code, mem, time) {
             Turn::Next => {}
-            Turn::Halted => return ended(disp, ran + 1, mem, AheadEnd::Halt),
-            Turn::Trap(x) => return ended(disp, ran, mem, AheadEnd::Trap(x)),
-            Turn::Call(instr) => return ended(disp, ran, mem, AheadEnd::Call(instr)),
+            Turn::Halted => {
+                return Ran {
+                    ran: ran + 1,
+                    end: AheadEnd::Halt,
+                };
+            }
+            Turn::Trap(x) => {
+                return Ran {
+                    ran,
+                    end: AheadEnd::Trap(x),
+                };
+            }
+            Turn::Call(instr) => {
+                return Ran {
+                    ran,
+                    end: AheadEnd::Call(instr),
+                };
+            }
         }
     }
-    let end = match call_at(code, disp.place) {
+    let end = match call_at(code, d.place) {
         Some(instr) => AheadEnd::Call(instr),
         None => AheadEnd::Quantum,
     };
-    ended(disp, quantum, mem, end)
+    Ran { ran: quantum, end }
 }
 
-/// Makes the changes in order. Their addresses are below the length of the memory.
-pub fn apply(mem: &mut [u32], ahead: &Ahead)
-    requires { IsTrue (are_below (length mem.old) ahead.now.changes.items) }
-    ensures { mem.new ≡ with_changes mem.old ahead.now.changes.items }
+/// How the plain part of a slice would end. Nothing is changed.
+#[inline(never)]
+pub fn end_ahead(d: &Dispatcher, code: &[u32], mem: &[u32], time: u64, quantum: u32) -> AheadEnd
+    requires code { length code.now ≤ 1024 }
+    requires mem { length mem.now ≡ 4096 }
+    requires quantum { quantum ≤ 64 }
+    ensures end { end_seen result ≡ (spec.ahead time code.now quantum (context_of d.now) mem.now).end }
+    ensures proper { IsTrue (is_proper_end result) }
 {
-    write_all(mem, ahead.changes.as_slice());
-}
-
-#[tactic(auto, using(crate::proofs::Changed::below_at))]
-fn write_all(mem: &mut [u32], changes: &[(u32, u32)])
-    requires { IsTrue (are_below (length mem.old) changes.now) }
-    ensures { mem.new ≡ with_changes mem.old changes.now }
-{
-    for &(address, word) in changes {
-        mem[address as usize] = word;
-    }
+    let mut disp = *d;
+    let mut window = Window::over(mem);
+    run(&mut disp, code, &mut window, time, quantum).end
 }

@@ -4,13 +4,12 @@ ghost use Rattle.std.specs.Prelude.{◌≡◌, ◌<◌, ◌≤◌, ◌+◌, ◌-
 ghost use Rattle.dc_base.specs.Instructions.{is_proper};
 ghost use Rattle.dc_base.specs.Effects.{effect};
 ghost use Rattle.dc_exec.specs.Calls as calls;
-ghost use Rattle.dc_exec.specs.Changes.{memory_of};
-ghost use Rattle.dc_exec.specs.Steps.{IsLive, Makes, Loads, Stores, context_of};
+ghost use Rattle.dc_exec.specs.Steps.{Makes, Loads, Stores, context_of};
 
-use crate::windows::Window;
+use crate::memories::Memory;
 use dc_base::limits::MEMORY_WORDS;
 use dc_base::traps::PAST_MEMORY;
-use dc_isa::{DispState, Dispatcher, Instr};
+use dc_isa::{Dispatcher, Instr};
 
 /// What a plain instruction came to.
 #[derive(Clone, Copy, Debug, PartialEq, Eq)]
@@ -77,12 +76,13 @@ fn address(d: &Dispatcher, b: u32, imm: u32) -> Option<u32>
 }
 
 /// Loads a word of the memory into a register.
-fn load(d: &mut Dispatcher, mem: &Window, a: u32, b: u32, imm: u32) -> Went
+fn load<M: Memory>(d: &mut Dispatcher, mem: &M, a: u32, b: u32, imm: u32) -> Went
     requires a { a < 8 }
     requires b { b < 8 }
     requires imm { imm < 2 ^ 16 }
     requires place { d.old.place < 2 ^ 32 - 1 }
-    ensures { Loads result d.old d.new mem.now a (slice_index d.old.regs b + imm) }
+    requires mem { length (M.words mem.now) ≡ 4096 }
+    ensures { Loads result d.old d.new (M.words mem.now) a (slice_index d.old.regs b + imm) }
 {
     match address(d, b, imm) {
         Some(address) => set(d, a, mem.word(address)),
@@ -91,14 +91,16 @@ fn load(d: &mut Dispatcher, mem: &Window, a: u32, b: u32, imm: u32) -> Went
 }
 
 /// Stores a register to a word of the memory.
-fn store(d: &mut Dispatcher, mem: &mut Window, a: u32, b: u32, imm: u32) -> Went
+fn store<M: Memory>(d: &mut Dispatcher, mem: &mut M, a: u32, b: u32, imm: u32) -> Went
     requires a { a < 8 }
     requires b { b < 8 }
     requires imm { imm < 2 ^ 16 }
     requires place { d.old.place < 2 ^ 32 - 1 }
-    requires room { length mem.old.changes < 64 }
-    ensures { let address = slice_index d.old.regs b + imm in
-        Stores result d.old d.new mem.old mem.new (slice_index d.old.regs a) address }
+    requires mem { length (M.words mem.old) ≡ 4096 }
+    requires room { 0 < M.room mem.old }
+    ensures store { let address = slice_index d.old.regs b + imm in
+        Stores result d.old d.new (M.words mem.old) (M.words mem.new) (slice_index d.old.regs a) address }
+    ensures room { M.room mem.old ≤ M.room mem.new + 1 }
 {
     match address(d, b, imm) {
         Some(address) => {
@@ -122,17 +124,20 @@ fn read_time(d: &mut Dispatcher, time: u64, a: u32, b: u32) -> Went
     set(d, b, (time / 4294967296) as u32)
 }
 
-/// Runs a plain instruction at a time. A trap changes nothing.
+/// Runs a plain instruction at a time. A halt and a trap change nothing.
+#[inline(always)]
 #[tactic(auto, unfolding(dc_base::specs::Instructions::is_proper, dc_base::specs::Effects::effect, crate::specs::Calls::call_name))]
-pub fn plain(d: &mut Dispatcher, mem: &mut Window, time: u64, instr: &Instr) -> Went
-    requires live { IsLive d.old.state }
+pub fn plain<M: Memory>(d: &mut Dispatcher, mem: &mut M, time: u64, instr: &Instr) -> Went
     requires plain { calls.call_name instr.now ≡ None }
     requires proper { IsTrue (is_proper instr.now) }
     requires place { d.old.place < 2 ^ 32 - 1 }
-    requires room { length mem.old.changes < 64 }
-    ensures went { let move = effect time (context_of d.old) (memory_of mem.old) instr.now in
-        Makes result d.old d.new mem.old mem.new instr.now move }
+    requires mem { length (M.words mem.old) ≡ 4096 }
+    requires room { 0 < M.room mem.old }
+    ensures went { let move = effect time (context_of d.old) (M.words mem.old) instr.now in
+        Makes result d.old d.new (M.words mem.old) (M.words mem.new) move }
     ensures place { d.new.place ≤ max (d.old.place + 1) 65535 }
+    ensures size { length (M.words mem.new) ≡ 4096 }
+    ensures room { M.room mem.old ≤ M.room mem.new + 1 }
 {
     match *instr {
         Instr::Li { a, imm } => set(d, a, imm),
@@ -154,10 +159,7 @@ pub fn plain(d: &mut Dispatcher, mem: &mut Window, time: u64, instr: &Instr) -> 
         Instr::St { a, b, imm } => store(d, mem, a, b, imm),
         Instr::Rdt { a, b } => read_time(d, time, a, b),
         Instr::Nop => next(d),
-        Instr::Halt => {
-            d.state = DispState::Halted;
-            Went::Halted
-        }
+        Instr::Halt => Went::Halted,
         _ => unreachable!(),
     }
 }

@@ -1,17 +1,16 @@
 //! What happens at the place of a dispatcher.
 
-ghost use Rattle.std.specs.Prelude.{◌≡◌, ◌<◌, ◌≤◌, ℕ, List, length, slice_get, IsTrue, IfSome, OnSome};
+ghost use Rattle.std.specs.Prelude.{◌≡◌, ◌<◌, ◌≤◌, ◌+◌, ℕ, List, length, slice_get, IsTrue, IfSome, OnSome};
 ghost use Rattle.dc_base.specs.Instructions.{is_proper};
 ghost use Rattle.dc_base.specs.Effects.{act};
 ghost use Rattle.dc_base.specs.Ahead.{last_look};
 ghost use Rattle.dc_exec.specs.Calls.{end_at_place, is_proper_call};
-ghost use Rattle.dc_exec.specs.Changes.{memory_of};
-ghost use Rattle.dc_exec.specs.Steps.{IsLive, context_of};
+ghost use Rattle.dc_exec.specs.Steps.{context_of};
 ghost use Rattle.dc_exec.specs.Turns.{Turns};
 
 use crate::calls::call_name;
+use crate::memories::Memory;
 use crate::steps::{Went, plain};
-use crate::windows::Window;
 use dc_base::traps::{NO_INSTRUCTION, PAST_CODE};
 use dc_isa::{Dispatcher, Instr, decode};
 
@@ -31,13 +30,16 @@ fn word_at(code: &[u32], place: u32) -> Option<u32>
 }
 
 /// Runs the instruction at the dispatcher's place, if it is plain.
+#[inline(always)]
 #[tactic(auto, unfolding(dc_base::specs::Effects::act))]
-pub(crate) fn run_place(d: &mut Dispatcher, code: &[u32], mem: &mut Window, time: u64) -> Turn
-    requires live { IsLive d.old.state }
+pub(crate) fn run_place<M: Memory>(d: &mut Dispatcher, code: &[u32], mem: &mut M, time: u64) -> Turn
     requires code { length code.now ≤ 1024 }
-    requires room { length mem.old.changes < 64 }
-    ensures { let move = act time code.now (context_of d.old) (memory_of mem.old) in
-        Turns result d.old d.new mem.old mem.new code.now move }
+    requires mem { length (M.words mem.old) ≡ 4096 }
+    requires room { 0 < M.room mem.old }
+    ensures turn { let move = act time code.now (context_of d.old) (M.words mem.old) in
+        Turns result d.old d.new (M.words mem.old) (M.words mem.new) code.now move }
+    ensures size { length (M.words mem.new) ≡ 4096 }
+    ensures room { M.room mem.old ≤ M.room mem.new + 1 }
 {
     let Some(word) = word_at(code, d.place) else {
         return Turn::Trap(PAST_CODE);
@@ -56,6 +58,7 @@ pub(crate) fn run_place(d: &mut Dispatcher, code: &[u32], mem: &mut Window, time
 }
 
 /// The kernel call at a place of the code.
+#[inline(always)]
 pub(crate) fn call_at(code: &[u32], place: u32) -> Option<Instr>
     ensures end { (time : ℕ) (regs memory : List ℕ) →
         last_look (act time code.now (record { regs = regs; place = place }) memory)

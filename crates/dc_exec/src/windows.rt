@@ -1,12 +1,13 @@
 //! A memory seen with its changes on top.
 
-ghost use Rattle.std.specs.Prelude.{◌≡◌, ◌<◌, ◌≤◌, ◌↔◌, [], ◌∷◌, length, slice_index, IsTrue};
-ghost use Rattle.dc_exec.specs.Changes.{memory_of, with_changes, with_more, are_below};
+ghost use Rattle.std.specs.Prelude.{◌≡◌, ◌<◌, ◌↔◌, [], length, slice_index, IsTrue};
+ghost use Rattle.dc_exec.specs.Changes.{with_changes};
 
+use crate::memories::Memory;
 use arrayvec::ArrayVec;
 use std::marker::Model;
 
-/// A memory of 4,096 words, seen with at most 64 changes on top.
+/// A memory of 4,096 words, seen with at most 64 changes on top. The memory below stays as it is.
 #[derive(Drop)]
 pub struct Window<'a> {
     words: &'a [u32],
@@ -43,31 +44,21 @@ impl<'a> Window<'a> {
     {
         self.changes.is_full()
     }
+}
 
-    /// The word at an address, with the changes.
-    pub fn word(&self, address: u32) -> u32
-        requires { address < 4096 }
-        ensures { result ≡ slice_index (memory_of self.now) address }
-    {
+impl<'a> Memory for Window<'a> {
+    ghost use Rattle.dc_exec.specs.Changes.{memory_of, room_of};
+
+    ghost words = { memory_of };
+
+    ghost room = { room_of };
+
+    fn word(&self, address: u32) -> u32 {
         word_under(self.words, self.changes.as_slice(), address)
     }
 
-    /// Changes the word at an address.
-    pub(crate) fn put(&mut self, address: u32, word: u32)
-        requires there { address < 4096 }
-        requires room { length self.old.changes < 64 }
-        ensures { self.new ≡ with_more self.old ((address, word) ∷ []) }
-    {
+    fn put(&mut self, address: u32, word: u32) {
         self.changes.push((address, word));
-    }
-
-    /// The changes, in order.
-    pub(crate) fn into_changes(self) -> ArrayVec<(u32, u32), 64>
-        ensures changes { result.items ≡ self.entry.changes }
-        ensures room { length result.items ≤ 64 }
-        ensures addresses { IsTrue (are_below 4096 result.items) }
-    {
-        self.changes
     }
 }
 

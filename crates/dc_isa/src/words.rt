@@ -189,6 +189,7 @@ fn instr_of(operation: u32, a: u32, b: u32, imm: u32) -> Option<Instr>
 }
 
 /// The instruction of a word. None where the word is no instruction's.
+#[inline(always)]
 #[tactic(auto, unfolding(dc_base::specs::Instructions::decode), using(crate::proofs::WordLaws::word_of_fields, crate::proofs::WordLaws::decoded_back))]
 pub fn decode(word: u32) -> Option<Instr>
     ensures instr { result ≡ spec.decode word }

@@ -1,3 +1,4 @@
+pub mod Between
 pub mod FiredParts
 pub mod Going
 pub mod SliceTurns

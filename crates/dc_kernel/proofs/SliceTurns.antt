@@ -17,7 +17,7 @@ use Rattle.dc_base.specs.NeededLooks.{look_outside, outside_change}
 use Rattle.dc_base.specs.SliceTurns.{core_after_slice, finish_slice, slice_entry, slice_outcome, slice_picked, slice_turn}
 use Rattle.dc_base.specs.Turns.{Turn, did, outcome}
 use Rattle.dc_kernel.specs.Running.{Running, on_core, time_in}
-use Rattle.dc_kernel.specs.Forwards.{fired, picked, halfway_in, need_in}
+use Rattle.dc_kernel.specs.Begins.{fired, picked, halfway_in, need_in}
 use Rattle.dc_kernel.specs.Done.{done, done_by, done_picked}
 use Rattle.dc_kernel.specs.Turned.{look_in, look_here, outcome_by, done_outcome}
 

@@ -10,7 +10,7 @@ use Rattle.dc_base.specs.Serving.{Outside, nothing_outside}
 use Rattle.dc_base.specs.Slices as slice
 use Rattle.dc_calls.specs.declared.sliced.Sliced.{Sliced}
 use Rattle.dc_kernel.specs.Running.{Running, time_in}
-use Rattle.dc_kernel.specs.Forwards.{number_of, fired, picked}
+use Rattle.dc_kernel.specs.Begins.{number_of, fired, picked}
 
 pub record Done : Type 0 where
   pub control : ControlBlock

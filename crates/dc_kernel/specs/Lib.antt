@@ -1,5 +1,5 @@
+pub mod Begins
 pub mod Done
-pub mod Forwards
 pub mod Kernels
 pub mod Running
 pub mod Sides

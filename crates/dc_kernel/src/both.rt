@@ -2,8 +2,9 @@
 
 ghost use Rattle.std.specs.Prelude.{◌||◌};
 
-use crate::drivers::{Driver, Forward};
+use crate::drivers::{Begun, Driver};
 use arrayvec::ArrayVec;
+use dc_base::calls::Need;
 use dc_base::capabilities::Cap;
 use dc_base::interrupts::{Latch, Latched, Timer};
 use dc_base::kernels::Version;
@@ -74,24 +75,31 @@ impl<A: Driver, B: Driver> Driver for Both<A, B> {
         }
     }
 
-    fn forward(&self, now: u64, quantum: u32) -> Forward {
+    fn need(&self, now: u64, quantum: u32) -> Need {
         match self {
-            Both::First(a) => a.forward(now, quantum),
-            Both::Second(b) => b.forward(now, quantum),
+            Both::First(a) => a.need(now, quantum),
+            Both::Second(b) => b.need(now, quantum),
         }
     }
 
-    fn slice(
+    fn begin(&mut self, now: u64, quantum: u32) -> Begun {
+        match self {
+            Both::First(a) => a.begin(now, quantum),
+            Both::Second(b) => b.begin(now, quantum),
+        }
+    }
+
+    fn finish(
         &mut self,
         now: u64,
         core: CoreNo,
         block: BlockNo,
-        forward: &Forward,
-        outside: Outside,
-    ) -> (Sliced, Outside) {
+        begun: &Begun,
+        outside: &mut Outside,
+    ) -> Sliced {
         match self {
-            Both::First(a) => a.slice(now, core, block, forward, outside),
-            Both::Second(b) => b.slice(now, core, block, forward, outside),
+            Both::First(a) => a.finish(now, core, block, begun, outside),
+            Both::Second(b) => b.finish(now, core, block, begun, outside),
         }
     }
 

@@ -20,7 +20,7 @@ ghost use Rattle.dc_ready.specs.Entries.{dispatchers, entries_of, AreDues, IsRea
 ghost use Rattle.dc_kcb.specs.Readings.{disp_at};
 ghost use Rattle.dc_kernel.specs.Running.{Running, on_core, time_in, IsTimely, adopted, surrendered};
 ghost use Rattle.dc_calls.specs.Outsides.{outside_seen, HasRoom, Fits};
-ghost use Rattle.dc_kernel.specs.Forwards.{IsQuantum, IsForward, IsSomeForward};
+ghost use Rattle.dc_kernel.specs.Begins.{IsQuantum, IsBegun, IsSomeBegun, halfway_in, need_in};
 ghost use Rattle.dc_kernel.specs.Done.{done, told};
 
 use arrayvec::ArrayVec;
@@ -30,16 +30,17 @@ use dc_base::interrupts::{Latch, Latched, Timer};
 use dc_base::kernels::Version;
 use dc_base::numbers::{BlockNo, CoreNo, DispNo, PortNo, SignalNo, SlotNo};
 use dc_calls::{Outside, Sliced};
-use dc_exec::Ahead;
+use dc_exec::Ran;
 use dc_isa::Dispatcher;
 use dc_kcb::Kcb;
 use dc_ports::Port;
 
-/// What a slice would do up to its call: the dispatcher that would run, the plain part of the slice, and the object outside the block that its call needs.
-#[derive(Drop)]
-pub struct Forward {
+/// What a slice did up to its call: the dispatcher that runs, how many timers fired, the plain part, and the object outside the block that the call needs.
+#[derive(Clone, Copy, Debug, PartialEq, Eq)]
+pub struct Begun {
     pub disp: Option<DispNo>,
-    pub ahead: Option<Ahead>,
+    pub fired: u32,
+    pub plain: Ran,
     pub need: Need,
 }
 
@@ -81,29 +82,39 @@ pub trait Driver: Drop + Send + Sync {
     fn earliest(&self) -> Option<i128>
         ensures { result ≡ option_map (λ (t : Armed). pos t.deadline -ℤ (held self.now).offset) (soonest (held self.now).control.parts.timers) };
 
-    /// What a slice would do up to its call. Nothing changes.
-    fn forward(&self, now: u64, quantum: u32) -> Forward
+    /// The object outside the block that the call of a slice will need. Nothing changes.
+    fn need(&self, now: u64, quantum: u32) -> Need
         requires now { IsTimely now (held self.now) }
         requires quantum { IsQuantum quantum }
-        ensures { IsForward quantum now (held self.now) result };
+        ensures { result ≡ need_in (halfway_in quantum now (held self.now)) };
 
-    /// A slice of the block, with the object that its call needs. `core` and `block` are what a bind writes into its line.
-    fn slice(
+    /// A slice begins: the due timers fire, a dispatcher is picked, and its plain part runs.
+    fn begin(&mut self, now: u64, quantum: u32) -> Begun
+        requires now { IsTimely now (held self.old) }
+        requires quantum { IsQuantum quantum }
+        ensures begun { IsBegun quantum now (held self.old) (held self.new) result }
+        ensures offset { (held self.new).offset ≡ (held self.old).offset }
+        ensures version { (held self.new).version ≡ (held self.old).version };
+
+    /// The call at which a slice that has begun stands, with the object that it needs, and the end of the slice.
+    /// `core` and `block` are what a bind writes into its line.
+    fn finish(
         &mut self,
         now: u64,
         core: CoreNo,
         block: BlockNo,
-        forward: &Forward,
-        outside: Outside,
-    ) -> (Sliced, Outside)
+        begun: &Begun,
+        outside: &mut Outside,
+    ) -> Sliced
         requires now { IsTimely now (held self.old) }
         requires timers { (held self.old).control.parts.next_timer < 2 ^ 32 - 1 }
         requires dues { Each (held self.old).control.dues (λ d due. due < 2 ^ 63) }
-        requires forward { IsSomeForward now (held self.old) forward.now }
-        requires outside { Fits forward.now.need outside }
-        requires room { HasRoom outside }
-        ensures done { (q : ℕ) → IsQuantum q → IsForward q now (held self.old) forward.now → Some (told (held self.new).control result.0 (outside_seen result.1)) ≡ done (λ n. outside_seen outside) q core.0 block.0 now (held self.old) }
-        ensures kind { Fits forward.now.need result.1 }
+        requires begun { IsSomeBegun now (held self.old) begun.now }
+        requires outside { Fits begun.now.need outside.old }
+        requires room { HasRoom outside.old }
+        ensures done { (q : ℕ) (before : Running) → IsQuantum q → IsBegun q now before (held self.old) begun.now →
+            Some (told (held self.new).control result (outside_seen outside.new)) ≡ done (λ n. outside_seen outside.old) q core.0 block.0 now before }
+        ensures kind { Fits begun.now.need outside.new }
         ensures offset { (held self.new).offset ≡ (held self.old).offset }
         ensures version { (held self.new).version ≡ (held self.old).version };
 

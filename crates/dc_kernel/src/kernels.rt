@@ -4,7 +4,7 @@ ghost use Rattle.std.specs.Prelude.{◌≡◌, None};
 ghost use Rattle.dc_base.specs.declared.calls.End.TheVariants as end;
 ghost use Rattle.dc_calls.specs.Slices.{OffersWithin};
 
-use crate::drivers::{Driver, Forward};
+use crate::drivers::{Begun, Driver};
 use arrayvec::ArrayVec;
 use dc_base::calls::{End, Need};
 use dc_base::capabilities::Cap;
@@ -16,6 +16,7 @@ use dc_block_sound::{
     ready_stand_once, slices_keep_controls, waking_keeps_controls,
 };
 use dc_calls::{Form, Outside, Sliced};
+use dc_exec::{AheadEnd, Ran};
 use dc_isa::Dispatcher;
 use dc_kcb::Kcb;
 use dc_ports::Port;
@@ -108,53 +109,65 @@ impl<R: ReadyList + Send + Sync, T: TimerQueue + Send + Sync> Driver for Kernel<
         Some(deadline as i128 - self.clock.offset())
     }
 
-    fn forward(&self, now: u64, quantum: u32) -> Forward {
+    #[inline(never)]
+    fn need(&self, now: u64, quantum: u32) -> Need {
         firing_keeps_controls();
         picked_is_ready();
         let time = self.clock.time(now);
         let Some(d) = self.form.pick_after(time) else {
-            return Forward {
+            return Need::Nothing;
+        };
+        let end = self.form.end_ahead(d, time, quantum);
+        self.form.need_after(d, &end)
+    }
+
+    fn begin(&mut self, now: u64, quantum: u32) -> Begun {
+        firing_keeps_controls();
+        picked_is_ready();
+        aheads_keep_controls();
+        let time = self.clock.time(now);
+        let fired = self.form.fire(time);
+        let Some(d) = self.form.pick() else {
+            return Begun {
                 disp: None,
-                ahead: None,
+                fired,
+                plain: Ran {
+                    ran: 0,
+                    end: AheadEnd::Quantum,
+                },
                 need: Need::Nothing,
             };
         };
-        let ahead = self.form.ahead(d, time, quantum);
-        let need = self.form.need_after(d, &ahead);
-        Forward {
+        let plain = self.form.run_plain(d, time, quantum);
+        let need = self.form.need_after(d, &plain.end);
+        Begun {
             disp: Some(d),
-            ahead: Some(ahead),
+            fired,
+            plain,
             need,
         }
     }
 
-    fn slice(
+    fn finish(
         &mut self,
         now: u64,
         core: CoreNo,
         block: BlockNo,
-        forward: &Forward,
-        outside: Outside,
-    ) -> (Sliced, Outside) {
+        begun: &Begun,
+        outside: &mut Outside,
+    ) -> Sliced {
         firing_keeps_controls();
         picked_is_ready();
         aheads_keep_controls();
         slices_keep_controls();
         ready_stand_once();
-        offers_are_within(&outside);
-        let mut outside = outside;
+        offers_are_within(outside);
+        let Some(d) = begun.disp else {
+            return empty(begun.fired);
+        };
         let time = self.clock.time(now);
-        let fired = self.form.fire(time);
-        let Some(d) = forward.disp else {
-            return (empty(fired), outside);
-        };
-        let Some(ahead) = &forward.ahead else {
-            return (empty(fired), outside);
-        };
-        let sliced = self
-            .form
-            .run(d, fired, ahead, time, core, block, &mut outside);
-        (sliced, outside)
+        self.form
+            .end_slice(d, begun.fired, &begun.plain, time, core, block, outside)
     }
 
     fn intake(&mut self, s: SignalNo, l: Latch) -> Latched {

@@ -5,7 +5,7 @@ ghost use Rattle.dc_base.specs.States.{State, Core};
 ghost use Rattle.dc_base.specs.SliceTurns.{slice_turn};
 ghost use Rattle.dc_base.specs.Turns.{outcome};
 ghost use Rattle.dc_kernel.specs.Running.{Running, on_core};
-ghost use Rattle.dc_kernel.specs.Forwards.{halfway_in, need_in};
+ghost use Rattle.dc_kernel.specs.Begins.{halfway_in, need_in};
 ghost use Rattle.dc_kernel.specs.Done.{done};
 ghost use Rattle.dc_kernel.specs.Turned.{look_here, done_outcome};
 

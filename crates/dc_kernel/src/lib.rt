@@ -7,6 +7,6 @@ mod kernels;
 mod laws;
 
 pub use both::Both;
-pub use drivers::{Driver, Forward};
+pub use drivers::{Begun, Driver};
 pub use kernels::Kernel;
 pub use laws::{adopt_and_surrender, slice_is_done};

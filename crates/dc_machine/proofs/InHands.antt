@@ -11,7 +11,7 @@ use Rattle.dc_base.specs.Placed.{IsOn}
 use Rattle.dc_base.specs.Sound.{IsSound}
 use Rattle.dc_base.specs.States.{State, Core, Block, Whereabouts, rest, on, time_of, time_on, clock_of}
 use Rattle.dc_base.specs.Words.{Each}
-use Rattle.dc_kernel.specs.Forwards.{IsQuantum}
+use Rattle.dc_kernel.specs.Begins.{IsQuantum}
 use Rattle.dc_objects.specs.Blocks.{CanSlice}
 use Rattle.dc_sound.proofs.Times.{clock_of-at}
 use Rattle.dc_machine.specs.InHand.{AreInHand, IsInHand}

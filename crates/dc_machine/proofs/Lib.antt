@@ -1,3 +1,4 @@
+pub mod Begun
 pub mod ActionTurns
 pub mod CoreTurns
 pub mod Disps

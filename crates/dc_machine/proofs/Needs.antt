@@ -22,7 +22,7 @@ use Rattle.dc_base.specs.Slices.{Halfway, stopped, stands, halfway, need_of, sli
 use Rattle.dc_base.specs.Sound.{IsSound}
 use Rattle.dc_base.specs.States.{State, Block, Whereabouts, rest, on}
 use Rattle.dc_base.specs.Words.{bind}
-use Rattle.dc_kernel.specs.Forwards.{halfway_in, need_in}
+use Rattle.dc_kernel.specs.Begins.{halfway_in, need_in}
 use Rattle.dc_kernel.specs.Running.{Running, time_in}
 use Rattle.dc_objects.specs.Blocks.{running_of}
 use Rattle.dc_sound.proofs.BlockNaming.{keeps_names, held_names}

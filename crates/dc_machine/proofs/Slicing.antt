@@ -27,12 +27,11 @@ use Rattle.dc_base.specs.NeededLooks.{as_console, as_channel, as_line, outside_c
 use Rattle.dc_base.specs.SliceTurns.{core_after_slice, slice_turn}
 use Rattle.dc_base.specs.Turns.{did, outcome}
 use Rattle.dc_base.specs.Words.{bind}
-use Rattle.dc_kernel.specs.declared.drivers.Forward.{Forward}
 use Rattle.dc_calls.specs.declared.sliced.Sliced.{Sliced}
 use Rattle.dc_calls.specs.declared.outsides.Outside.{Outside as Held}
 use Rattle.dc_calls.specs.declared.outsides.Outside.TheVariants as held
 use Rattle.dc_kernel.specs.Done.{Done, done, done_by, done_picked, done_empty, told}
-use Rattle.dc_kernel.specs.Forwards.{IsForward, fired, picked, halfway_in, need_in, number_of}
+use Rattle.dc_kernel.specs.Begins.{fired, picked, halfway_in, need_in, number_of}
 use Rattle.dc_calls.specs.Outsides.{outside_seen, HasRoom}
 use Rattle.dc_kernel.specs.Running.{Running, on_core, time_in}
 use Rattle.dc_kernel.specs.Turned.{look_in, look_here, outcome_by, done_outcome}
@@ -231,9 +230,6 @@ module _ (s : State) (c : ℕ) (k : Core) (b : ℕ) (n : Need) (o : Outside) (r 
 
   pub kind_kept : SameKind (look_here k.settings s b n) t.outside
   kind_kept = subst (λ (m : Need). SameKind (look_here k.settings s b m) t.outside) (sym need) (done_kind (look_here k.settings s b) refl k.settings.quantum c b k.clock r t looked_done)
-
-pub forward_same : (q : ℕ) (x y : Block) (clock now : ℕ) (f : Forward) → clock ≡ now → y ≡ x → IsForward q now (running_of x) f → IsForward q clock (running_of y) f
-forward_same q x y clock now f e g h = subst (λ (z : Block). IsForward q clock (running_of z) f) (sym g) (subst (λ n. IsForward q n (running_of x) f) (sym e) h)
 
 -- the same at a clock that is equal
 pub did_at : (c : ℕ) (k : Core) (b : ℕ) (o : Outside) (x : Block) (clock : ℕ) (t : Done) → clock ≡ k.clock → Some t ≡ done (λ (m : Need). o) k.settings.quantum c b clock (running_of x) → Some t ≡ done (λ (m : Need). o) k.settings.quantum c b k.clock (running_of x)

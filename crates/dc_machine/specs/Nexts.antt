@@ -12,8 +12,6 @@ use Rattle.dc_base.specs.IdleTurns.{next_due}
 use Rattle.dc_base.specs.Turns.{Looked}
 use Rattle.dc_base.specs.Words.{lesser}
 use Rattle.dc_calls.specs.declared.sliced.Sliced.{Sliced}
-use Rattle.dc_kernel.specs.Forwards.{IsForward}
-use Rattle.dc_objects.specs.Blocks.{running_of}
 use Rattle.dc_machine.specs.declared.steps.Next.{Next}
 use Rattle.dc_machine.specs.declared.steps.Next.TheVariants as next
 use Rattle.dc_machine.specs.declared.turns.Stepped.{Stepped}
@@ -40,8 +38,7 @@ first_runnable k share = find (is_runnable k.clock) share
 abbrev pub IsNext : Core → List Looked → Next → Type 0
 IsNext k share next.Nothing = (first_runnable k share ≡ None) × (next_due share ≡ None)
 IsNext k share (next.Idle clock) = (first_runnable k share ≡ None) × (next_due share ≡ Some clock)
-IsNext k share (next.Slice b f) =
-    (x : Block) × (first_runnable k share ≡ Some (record { number = b.0; found = Some x })) × IsForward k.settings.quantum k.clock (running_of x) f
+IsNext k share (next.Slice b) = (x : Block) × (first_runnable k share ≡ Some (record { number = b.0; found = Some x }))
 
 abbrev pub what_by : BlockNo → Sliced → ℕ → Option DispNo → What
 what_by b s clock None = what.SliceNone b s.fired clock

@@ -14,13 +14,12 @@ ghost use Rattle.dc_base.specs.IdleTurns.{next_due, idle_outcome};
 ghost use Rattle.dc_base.specs.SliceTurns.{slice_turn};
 ghost use Rattle.dc_base.specs.Turns.{Looked, did, outcome};
 ghost use Rattle.dc_base.specs.Words.{above_zero};
-ghost use Rattle.dc_kernel.specs.Forwards.{IsForward, IsQuantum};
+ghost use Rattle.dc_kernel.specs.Begins.{IsQuantum};
 ghost use Rattle.dc_calls.specs.Outsides.{Fits, HasRoom, outside_seen};
-ghost use Rattle.dc_objects.specs.Blocks.{running_of};
 ghost use Rattle.dc_objects.specs.States.{state_of};
 ghost use Rattle.dc_machine.specs.Answers.{Answers, IsQuiet};
-ghost use Rattle.dc_machine.specs.Held.{IsSlice};
-ghost use Rattle.dc_machine.specs.InHand.{AreInHand, IsInHand, looked_in};
+ghost use Rattle.dc_machine.specs.Held.{IsSlice, HasBegun, BeginsAt};
+ghost use Rattle.dc_machine.specs.InHand.{AreInHand, looked_in};
 ghost use Rattle.dc_machine.specs.Nexts.{earlier, stopped, first_runnable, IsNext, slice_what};
 
 use crate::blocks::Blocks;
@@ -30,15 +29,15 @@ use dc_base::actions::Actor;
 use dc_base::entries::{Entry, Reason, What};
 use dc_base::numbers::{BlockNo, CoreNo};
 use dc_calls::{Outside, Sliced};
-use dc_kernel::{Driver, Forward};
+use dc_kernel::{Begun, Driver};
 use dc_objects::{BlockState, CoreState, Objects};
 
 /// What a core does next: nothing, idle until its clock stands so, or a slice of a block.
-#[derive(Drop)]
+#[derive(Clone, Copy)]
 pub(crate) enum Next {
     Nothing,
     Idle(u64),
-    Slice { block: BlockNo, forward: Forward },
+    Slice(BlockNo),
 }
 
 /// Why a core does nothing at all: its budget is used, or it is off.
@@ -118,16 +117,10 @@ fn next_due<D: Driver, B: Blocks<D>>(core: &CoreState, blocks: &B) -> Option<u64
 /// What a core does next that is on and has not used its budget.
 pub(crate) fn next_of<D: Driver, B: Blocks<D>>(core: &CoreState, blocks: &B) -> Next
     requires hand { (c : ℕ) × AreInHand c core.now (B.seen blocks.now) }
-    requires quantum { IsQuantum core.now.settings.quantum }
     ensures { IsNext core.now (looked_in (B.seen blocks.now) core.now.share) result }
 {
     if let Some(b) = first_runnable(core, blocks) {
-        if let Some(block) = blocks.block(b) {
-            return Next::Slice {
-                block: b,
-                forward: block.forward(core.clock(), core.settings().quantum()),
-            };
-        }
+        return Next::Slice(b);
     }
     match next_due(core, blocks) {
         Some(clock) => Next::Idle(clock),
@@ -156,50 +149,60 @@ pub(crate) fn slice_what(block: BlockNo, s: &Sliced, clock: u64) -> What
     }
 }
 
-/// A slice of a block of the share, which can run, with the object that its call needs.
+/// The end of a slice that has begun of a block of the share, with the object that its call needs.
 pub(crate) fn slice_held<D: Driver>(
     core: &mut CoreState,
     block: &mut BlockState<D>,
     c: CoreNo,
     b: BlockNo,
-    forward: &Forward,
-    outside: Outside,
-) -> (Entry, Outside)
+    begun: &Begun,
+    outside: &mut Outside,
+) -> Entry
     requires share { has core.old.share b.0 ≡ true }
     requires budget { core.old.used < core.old.settings.slices }
     requires quantum { IsQuantum core.old.settings.quantum }
     requires clock { core.old.clock < 2 ^ 63 }
-    requires block { IsInHand c.0 core.old.clock block.old }
-    requires forward { IsForward core.old.settings.quantum core.old.clock (running_of block.old) forward.now }
-    requires outside { Fits forward.now.need outside }
-    requires room { HasRoom outside }
-    ensures slice { IsSlice c.0 b.0 core.old core.new block.old block.new forward.now.need (outside_seen outside) (outside_seen result.1) result.0 }
-    ensures kind { Fits forward.now.need result.1 }
+    requires begun { (x : Block) × HasBegun c.0 core.old x block.old begun.now }
+    requires outside { Fits begun.now.need outside.old }
+    requires room { HasRoom outside.old }
+    ensures slice { (x : Block) → HasBegun c.0 core.old x block.old begun.now → IsSlice c.0 b.0 core.old core.new x block.new begun.now.need (outside_seen outside.old) (outside_seen outside.new) result }
+    ensures kind { Fits begun.now.need outside.new }
 {
     let clock = core.clock();
-    let (sliced, outside) = block.slice(clock, c, b, forward, outside);
+    let sliced = block.finish(clock, c, b, begun, outside);
     let after = clock + u64::from(sliced.advance);
     core.ran(b, after);
-    let entry = Entry {
+    Entry {
         actor: Actor::Core(c),
         what: slice_what(b, &sliced, after),
-    };
-    (entry, outside)
+    }
 }
 
-/// The same, of objects in their places.
-fn slice<D: Driver>(objects: &mut Objects<D>, c: CoreNo, b: BlockNo, forward: &Forward) -> Stepped
+/// A slice begins of a block in its place.
+fn begin<D: Driver>(objects: &mut Objects<D>, c: CoreNo, b: BlockNo) -> Begun
     requires sound { IsSound (state_of objects.old) }
-    requires core { (k : Core) × (slice_get objects.old.cores.items c.0 ≡ Some k) × (has k.share b.0 ≡ true) × (k.used < k.settings.slices)
-        × ((x : Block) → slice_get objects.old.blocks.items b.0 ≡ Some x → IsForward k.settings.quantum k.clock (running_of x) forward.now) }
+    requires core { (k : Core) × (slice_get objects.old.cores.items c.0 ≡ Some k) × (has k.share b.0 ≡ true) }
+    ensures begun { (k : Core) (x : Block) → slice_get objects.old.cores.items c.0 ≡ Some k → slice_get objects.old.blocks.items b.0 ≡ Some x → BeginsAt c.0 b.0 (state_of objects.old) (state_of objects.new) k x result }
+{
+    let core = &objects.cores[c.0 as usize];
+    let clock = core.clock();
+    let quantum = core.settings().quantum();
+    objects.blocks[b.0 as usize].begin(clock, quantum)
+}
+
+/// A slice of objects in their places.
+fn slice<D: Driver>(objects: &mut Objects<D>, c: CoreNo, b: BlockNo) -> Stepped
+    requires sound { IsSound (state_of objects.old) }
+    requires core { (k : Core) × (slice_get objects.old.cores.items c.0 ≡ Some k) × (has k.share b.0 ≡ true) × (k.used < k.settings.slices) }
     ensures step { (k : Core) → slice_get objects.old.cores.items c.0 ≡ Some k → Answers result (state_of objects.old) (state_of objects.new) (outcome (state_of objects.old) (slice_turn c.0 k b.0 (slice_get objects.old.blocks.items b.0))) }
     ensures quiet { IsQuiet result }
 {
-    let outside = take_outside(objects, b, forward.need);
+    let begun = begin(objects, c, b);
+    let mut outside = take_outside(objects, b, begun.need);
     let core = &mut objects.cores[c.0 as usize];
     let block = &mut objects.blocks[b.0 as usize];
-    let (entry, outside) = slice_held(core, block, c, b, forward, outside);
-    put_outside(objects, b, forward.need, outside);
+    let entry = slice_held(core, block, c, b, &begun, &mut outside);
+    put_outside(objects, b, begun.need, outside);
     Stepped::Did(entry)
 }
 
@@ -235,9 +238,9 @@ pub(crate) fn step_turn<D: Driver>(objects: &mut Objects<D>, c: CoreNo) -> Stepp
     if let Some(stop) = stopped(core) {
         return stop;
     }
-    match &next_of(core, objects) {
+    match next_of(core, objects) {
         Next::Nothing => Stepped::NotEnabled(Reason::Nothing),
-        Next::Idle(clock) => idle(objects, c, *clock),
-        Next::Slice { block, forward } => slice(objects, c, *block, forward),
+        Next::Idle(clock) => idle(objects, c, clock),
+        Next::Slice(block) => slice(objects, c, block),
     }
 }

@@ -10,15 +10,17 @@ ghost use Rattle.dc_base.specs.Wakes.{ready_again};
 ghost use Rattle.dc_base.specs.declared.interrupts.Timer.{Timer as Armed};
 ghost use Rattle.std.specs.Prelude.{pos, ◌-ℤ◌};
 ghost use Rattle.dc_kernel.specs.Done.{done, told};
-ghost use Rattle.dc_kernel.specs.Forwards.{IsQuantum, IsForward, IsSomeForward};
+ghost use Rattle.dc_kernel.specs.Begins.{IsQuantum, IsBegun, IsSomeBegun, halfway_in, need_in};
+ghost use Rattle.dc_kernel.specs.Running.{Running};
 ghost use Rattle.dc_calls.specs.Outsides.{outside_seen, HasRoom, Fits};
 ghost use Rattle.dc_objects.specs.Blocks.{running_of, IsHeld, IsTimed, CanSlice};
 
+use dc_base::calls::Need;
 use dc_base::interrupts::{Latch, Latched};
 use dc_base::numbers::{BlockNo, CoreNo, DispNo, SignalNo};
 use dc_calls::{Outside, Sliced};
 use dc_kcb::Kcb;
-use dc_kernel::{Driver, Forward};
+use dc_kernel::{Begun, Driver};
 use std::marker::Model;
 
 /// At rest, or under a kernel on a core.
@@ -67,40 +69,54 @@ impl<D: Driver> BlockState<D> {
         }
     }
 
-    /// What a slice would do up to its call. Nothing changes.
-    pub fn forward(&self, clock: u64, quantum: u32) -> Forward
+    /// The object outside the block that the call of a slice will need. Nothing changes.
+    pub fn need(&self, clock: u64, quantum: u32) -> Need
         requires timed { IsTimed clock self.now }
         requires quantum { IsQuantum quantum }
-        ensures { IsForward quantum clock (running_of self.now) result }
+        ensures { result ≡ need_in (halfway_in quantum clock (running_of self.now)) }
     {
         match &self.form {
             Form::Rest(_) => unreachable!(),
-            Form::Held { core: _, kernel } => kernel.forward(clock, quantum),
+            Form::Held { core: _, kernel } => kernel.need(clock, quantum),
         }
     }
 
-    /// A slice of the block, with the object that its call needs. `core` and `block` are what a bind writes into its line.
-    pub fn slice(
-        &mut self,
-        clock: u64,
-        core: CoreNo,
-        block: BlockNo,
-        forward: &Forward,
-        outside: Outside,
-    ) -> (Sliced, Outside)
+    /// A slice begins: the due timers fire, a dispatcher is picked, and its plain part runs.
+    pub fn begin(&mut self, clock: u64, quantum: u32) -> Begun
         requires timed { IsTimed clock self.old }
-        requires bounds { CanSlice self.old }
-        requires forward { IsSomeForward clock (running_of self.old) forward.now }
-        requires outside { Fits forward.now.need outside }
-        requires room { HasRoom outside }
-        ensures done { (q : ℕ) → IsQuantum q → IsForward q clock (running_of self.old) forward.now →
-            Some (told self.new.control result.0 (outside_seen result.1)) ≡ done (λ n. outside_seen outside) q core.0 block.0 clock (running_of self.old) }
-        ensures kind { Fits forward.now.need result.1 }
+        requires quantum { IsQuantum quantum }
+        ensures begun { IsBegun quantum clock (running_of self.old) (running_of self.new) result }
         ensures whereabouts { self.new ≡ with_control self.new.control self.old }
     {
         match &mut self.form {
             Form::Rest(_) => unreachable!(),
-            Form::Held { core: _, kernel } => kernel.slice(clock, core, block, forward, outside),
+            Form::Held { core: _, kernel } => kernel.begin(clock, quantum),
+        }
+    }
+
+    /// The call at which a slice that has begun stands, with the object that it needs, and the end of the slice.
+    /// `core` and `block` are what a bind writes into its line.
+    pub fn finish(
+        &mut self,
+        clock: u64,
+        core: CoreNo,
+        block: BlockNo,
+        begun: &Begun,
+        outside: &mut Outside,
+    ) -> Sliced
+        requires timed { IsTimed clock self.old }
+        requires bounds { CanSlice self.old }
+        requires begun { IsSomeBegun clock (running_of self.old) begun.now }
+        requires outside { Fits begun.now.need outside.old }
+        requires room { HasRoom outside.old }
+        ensures done { (q : ℕ) (before : Running) → IsQuantum q → IsBegun q clock before (running_of self.old) begun.now →
+            Some (told self.new.control result (outside_seen outside.new)) ≡ done (λ n. outside_seen outside.old) q core.0 block.0 clock before }
+        ensures kind { Fits begun.now.need outside.new }
+        ensures whereabouts { self.new ≡ with_control self.new.control self.old }
+    {
+        match &mut self.form {
+            Form::Rest(_) => unreachable!(),
+            Form::Held { core: _, kernel } => kernel.finish(clock, core, block, begun, outside),
         }
     }
 

@@ -1,15 +1,13 @@
 -- A core's step.
 use Rattle.std.proofs.Common.{◌≡◌, Some, refl, sym, ap, ◌∙◌, subst, slice_get, length}
-use Rattle.std.proofs.lemmas.Option.{slice_get_read, same_Some}
-use Rattle.dc_base.specs.States.{State, Core, Block}
+use Rattle.std.proofs.lemmas.Option.{slice_get_read}
+use Rattle.dc_base.specs.States.{State, Core}
 use Rattle.dc_base.specs.IdleTurns.{idle_outcome}
-use Rattle.dc_kernel.specs.Forwards.{IsForward}
-use Rattle.dc_objects.specs.Blocks.{running_of}
 use Rattle.dc_objects.specs.States.{state_of}
 use Rattle.dc_machine.specs.Answers.{Answers}
 use Rattle.dc_machine.specs.Nexts.{IsNext}
-use Rattle.dc_machine.proofs.CoreTurns.{seen, stops, unspent, idles, nothing, first_there, first_listed, slices}
-use Rattle.dc_machine.proofs.InHands.{in_hand, quantum_is, budget_left}
+use Rattle.dc_machine.proofs.CoreTurns.{seen, stops, unspent, idles, nothing, first_listed, slices}
+use Rattle.dc_machine.proofs.InHands.{in_hand, budget_left}
 use Rattle.dc_machine.proofs.steps.step_turn.Goals as goal
 
 pub returns-in-Some-clause-step : goal.returns-in-Some-clause-step
@@ -26,13 +24,6 @@ next_of-requires-clause-hand g c κs within =
     let at : slice_get s.cores c.args.c.0 ≡ Some k = slice_get_read s.cores (length s.cores) c.args.c.0 k refl c.requires.core c.index-core.ensures in
     (c.args.c.0, in_hand s c.requires.sound c.args.c.0 k at)
 
-pub next_of-requires-clause-quantum : goal.next_of-requires-clause-quantum
-next_of-requires-clause-quantum g c κs within =
-    let s : State = state_of c.args.objects.now in
-    let k : Core = c.index-core.result.now in
-    let at : slice_get s.cores c.args.c.0 ≡ Some k = slice_get_read s.cores (length s.cores) c.args.c.0 k refl c.requires.core c.index-core.ensures in
-    quantum_is s c.requires.sound c.args.c.0 k at
-
 pub idle-requires-after_bounds : goal.idle-requires-after_bounds
 idle-requires-after_bounds g c κs within =
     let s : State = state_of c.args.objects.now in
@@ -45,13 +36,11 @@ slice-requires-clause-core g c κs within =
     let s : State = state_of c.args.objects.now in
     let k : Core = c.index-core.result.now in
     let at : slice_get s.cores c.args.c.0 ≡ Some k = slice_get_read s.cores (length s.cores) c.args.c.0 k refl c.requires.core c.index-core.ensures in
-    let next = subst (IsNext k (seen s c.args.c k at)) c.in-Slice.is c.next_of.ensures in
-    let there = first_there s c.args.c k at c.in-Slice.block next.0 next.1 in (
+    let next = subst (IsNext k (seen s c.args.c k at)) c.in-Slice.is c.next_of.ensures in (
       k,
       at,
       first_listed s c.args.c k at c.in-Slice.block next.0 next.1,
       budget_left s c.requires.sound c.args.c.0 k at (unspent s c.args.c k at (sym c.stopped.ensures ∙ c.in_default.is)),
-      λ x found. subst (λ (y : Block). IsForward k.settings.quantum k.clock (running_of y) c.in-Slice.forward) (same_Some next.0 x (sym there ∙ found)) next.2,
     )
 
 pub returns-in-Nothing-clause-step : goal.returns-in-Nothing-clause-step
