@@ -33,8 +33,8 @@ last_number words = loose_number (2 ^ 64) (last_word words)
 
 abbrev pub all_ops : List Op
 all_ops =
-    op.Out ∷ op.Yield ∷ op.Send ∷ op.Recv ∷ op.Csend ∷ op.Crecv ∷ op.Wait ∷ op.Arm ∷ op.Copy ∷ op.Retype ∷ op.Delete ∷ op.Revoke ∷ op.Bind ∷ op.Give ∷
-    op.Claim ∷ []
+    op.Out ∷ op.Yield ∷ op.Send ∷ op.Recv ∷ op.Csend ∷ op.Crecv ∷ op.Wait ∷ op.Arm ∷ op.Copy ∷ op.Retype ∷ op.Delete ∷ op.Revoke ∷ op.Bind ∷
+    op.Give ∷ op.Claim ∷ []
 
 abbrev pub op_of : List ℕ → Option Op
 op_of word = find (λ o. bytes_eq (op_word o) word) all_ops

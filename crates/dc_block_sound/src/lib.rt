@@ -38,12 +38,18 @@ pub fn waking_keeps_controls()
 
 /// A whole slice of the dispatcher that is picked keeps a control block sound, whatever object its call finds.
 pub fn slices_keep_controls()
-    ensures { (time quantum c n : ℕ) (v : Version) (d : ℕ) (x : ControlBlock) (h : Halfway) (out : Outside) → IsSoundControl x → pick v (fire_all time x).control.dues (fire_all time x).control.ready ≡ Some d → halfway quantum time (without_ready d (fire_all time x).control) d ≡ Some h → Suits (need_of h) out → IsSoundControl (slice_end c n v d h out).control }
+    ensures { (time quantum c n : ℕ) (v : Version) (d : ℕ) (x : ControlBlock) (h : Halfway) (out : Outside) → IsSoundControl x →
+        pick v (fire_all time x).control.dues (fire_all time x).control.ready ≡ Some d →
+        halfway quantum time (without_ready d (fire_all time x).control) d ≡ Some h → Suits (need_of h) out →
+        IsSoundControl (slice_end c n v d h out).control }
 {}
 
 /// The plain part of a slice of the dispatcher that is picked keeps the rest of a control block sound.
 pub fn aheads_keep_controls()
-    ensures { (time quantum : ℕ) (v : Version) (d : ℕ) (x : ControlBlock) (code : List ℕ) (c : Context) → IsSoundControl x → pick v (fire_all time x).control.dues (fire_all time x).control.ready ≡ Some d → slice_get (fire_all time x).control.parts.code d ≡ Some code → slice_get (fire_all time x).control.parts.contexts d ≡ Some c → IsSoundBesideReady (with_ahead (without_ready d (fire_all time x).control) d (ahead time code quantum c (fire_all time x).control.parts.memory)) }
+    ensures { (time quantum : ℕ) (v : Version) (d : ℕ) (x : ControlBlock) (code : List ℕ) (c : Context) → IsSoundControl x →
+        pick v (fire_all time x).control.dues (fire_all time x).control.ready ≡ Some d → slice_get (fire_all time x).control.parts.code d ≡ Some code →
+        slice_get (fire_all time x).control.parts.contexts d ≡ Some c →
+        IsSoundBesideReady (with_ahead (without_ready d (fire_all time x).control) d (ahead time code quantum c (fire_all time x).control.parts.memory)) }
 {}
 
 /// The first control block of each valid block is sound.
@@ -53,7 +59,8 @@ pub fn started_controls_are_sound()
 
 /// The dispatcher that is picked is one of the block, and is ready.
 pub fn picked_is_ready()
-    ensures { (v : Version) (d : ℕ) (x : ControlBlock) → IsSoundControl x → pick v x.dues x.ready ≡ Some d → (slice_get x.states d ≡ Some disp.Ready) × (d < length x.states) }
+    ensures { (v : Version) (d : ℕ) (x : ControlBlock) → IsSoundControl x → pick v x.dues x.ready ≡ Some d →
+        (slice_get x.states d ≡ Some disp.Ready) × (d < length x.states) }
 {}
 
 /// The ready list has exactly the ready dispatchers, each once, and none of one that is taken out.

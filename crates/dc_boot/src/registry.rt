@@ -1,7 +1,8 @@
 ghost use Rattle.std.specs.Prelude.{◌≡◌, ◌↔◌, ◌<◌, ◌≤◌, [], ◌∷◌, ◌++◌, Bool, true, false, None, Some, IsOk, IfOk, IfErr, length, map, slice_get, slice_set};
 ghost use Rattle.std.specs.Option.{option_map};
 ghost use Rattle.dc_base.specs.declared.commands.Order.TheVariants as order;
-ghost use Rattle.dc_base.specs.Boot.{boot_start, home_from, booted_at, core_of, home_on, parked_on, is_home, is_parked, refusal, orders, to_its_core, after_order, after_orders, none_on};
+ghost use Rattle.dc_base.specs.Boot.{boot_start, home_from, booted_at, core_of, home_on, parked_on, is_home, is_parked, refusal, orders, to_its_core};
+ghost use Rattle.dc_base.specs.Boot.{after_order, after_orders, none_on};
 ghost use Rattle.dc_boot.specs.Views.{place_of, home_of};
 ghost use Rattle.dc_boot.specs.Registries.{plan_orders, posted, FindsRoom};
 

@@ -1,6 +1,7 @@
 //! The dispatchers of a block, and what wakes them.
 
-ghost use Rattle.std.specs.Prelude.{◌≡◌, ◌<◌, ◌≤◌, ◌||◌, nat_lt, ◌+◌, ◌^◌, ◌-◌, ◌↔◌, ℕ, Some, None, false, length, map, slice_get, slice_set, IsErr, OnOk, OnErr};
+ghost use Rattle.std.specs.Prelude.{◌≡◌, ◌<◌, ◌≤◌, ◌||◌, nat_lt, ◌+◌, ◌^◌, ◌-◌, ◌↔◌, ℕ, Some, None, false, length, map, slice_get, slice_set, IsErr};
+ghost use Rattle.std.specs.Prelude.{OnOk, OnErr};
 ghost use Rattle.std.specs.Option.{option_map, option_map_or};
 ghost use Rattle.dc_base.specs.declared.dispatchers.DispState.TheVariants as disp;
 ghost use Rattle.dc_base.specs.declared.dispatchers.Wait.{Wait as Waits};
@@ -47,7 +48,13 @@ impl<R: ReadyList, T: TimerQueue> Model for Agenda<R, T> {
 
     ghost Value = { Agenda };
 
-    ghost view = { λ a. record { disps = a.disps.items; signals = a.signals.items; ready = R.listed a.ready; timers = T.armed a.timers; next_timer = T.next a.timers } };
+    ghost view = { λ a. record {
+      disps = a.disps.items;
+      signals = a.signals.items;
+      ready = R.listed a.ready;
+      timers = T.armed a.timers;
+      next_timer = T.next a.timers;
+    } };
 
     ghost invariant = { λ a. AreQueued a.disps.items (R.listed a.ready) };
 }
@@ -206,7 +213,8 @@ impl<R: ReadyList, T: TimerQueue> Agenda<R, T> {
     pub(crate) fn pick_after(&self, time: u64) -> Option<DispNo>
         requires named { Each self.now.timers (λ i (t : Armed). t.signal.0 < length self.now.signals) }
         requires room { length self.now.timers ≤ 64 }
-        ensures { (st : Store) → let x = (fire_all time (control_of st self.now)).control in option_map (λ (d : Disp). d.0) result ≡ pick R.policy x.dues x.ready }
+        ensures { (st : Store) → let x = (fire_all time (control_of st self.now)).control in
+            option_map (λ (d : Disp). d.0) result ≡ pick R.policy x.dues x.ready }
     {
         if !self.timers.is_due(time) {
             return self.pick();
@@ -219,7 +227,8 @@ impl<R: ReadyList, T: TimerQueue> Agenda<R, T> {
     fn pick_fired(&self, time: u64) -> Option<DispNo>
         requires named { Each self.now.timers (λ i (t : Armed). t.signal.0 < length self.now.signals) }
         requires room { length self.now.timers ≤ 64 }
-        ensures { (st : Store) → let x = (fire_all time (control_of st self.now)).control in option_map (λ (d : Disp). d.0) result ≡ pick R.policy x.dues x.ready }
+        ensures { (st : Store) → let x = (fire_all time (control_of st self.now)).control in
+            option_map (λ (d : Disp). d.0) result ≡ pick R.policy x.dues x.ready }
     {
         let mut other = self.copy();
         other.fire(time);
@@ -270,7 +279,8 @@ impl<R: ReadyList, T: TimerQueue> Agenda<R, T> {
     ) -> Result<(), TimersFull>
         requires { self.old.next_timer < 2 ^ 32 - 1 }
         ensures full { IsErr result ↔ (64 ≤ length self.old.timers) }
-        ensures armed { OnOk result ((st : Store) → control_of st self.new ≡ (let x = control_of st self.old in record x { parts = with_timer deadline signal.0 value x.parts })) }
+        ensures armed { OnOk result ((st : Store) → control_of st self.new ≡
+            (let x = control_of st self.old in record x { parts = with_timer deadline signal.0 value x.parts })) }
         ensures kept { OnErr result (self.new ≡ self.old) }
         ensures size { length self.new.disps ≡ length self.old.disps }
     {

@@ -31,7 +31,12 @@ impl<R: ReadyList, T: TimerQueue> Model for Form<R, T> {
 
     ghost Value = { ControlBlock };
 
-    ghost view = { λ f. control_of (record { memory = f.memory.items; code = map (λ v. v.items) f.code.items; caps = f.table.set; ports = f.ports.items }) f.agenda };
+    ghost view = { λ f. control_of (record {
+      memory = f.memory.items;
+      code = map (λ v. v.items) f.code.items;
+      caps = f.table.set;
+      ports = f.ports.items;
+    }) f.agenda };
 
     ghost invariant = { λ f. f.table.disps ≡ length f.agenda.disps };
 }
@@ -41,7 +46,8 @@ impl<R: ReadyList, T: TimerQueue> Form<R, T> {
     pub(crate) fn go_on(&mut self, d: DispNo)
         requires there { d.0 < length self.old.parts.contexts }
         requires places { Each self.old.parts.contexts (λ d (c : Context). c.place ≤ 65535) }
-        ensures { (x : Context) → slice_get self.old.parts.contexts d.0 ≡ Some x → self.new ≡ record self.old { parts = with_next_place d.0 x self.old.parts } }
+        ensures { (x : Context) → slice_get self.old.parts.contexts d.0 ≡ Some x →
+            self.new ≡ record self.old { parts = with_next_place d.0 x self.old.parts } }
     {
         let disp = self.agenda.disp(d);
         self.agenda.go_to(d, disp.regs, disp.place + 1);

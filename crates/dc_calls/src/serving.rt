@@ -33,7 +33,9 @@ impl<R: ReadyList, T: TimerQueue> Form<R, T> {
         requires timers { self.old.parts.next_timer < 2 ^ 32 - 1 }
         requires time { time < 2 ^ 63 }
         requires room { HasRoom outside.old }
-        ensures served { (x : Context) → slice_get self.old.parts.contexts d.0 ≡ Some x → Serves core.0 block.0 (call_of time d.0 x instr.now self.old.parts) self.old self.new (outside_seen outside.old) (outside_seen outside.new) result }
+        ensures served { (x : Context) → slice_get self.old.parts.contexts d.0 ≡ Some x →
+            Serves core.0 block.0 (call_of time d.0 x instr.now self.old.parts) self.old self.new (outside_seen outside.old)
+            (outside_seen outside.new) result }
         ensures kind { (n : Need) → Fits n outside.old → Fits n outside.new }
     {
         match *instr {

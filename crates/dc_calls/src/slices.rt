@@ -98,7 +98,8 @@ impl<R: ReadyList, T: TimerQueue> Form<R, T> {
     pub fn need_after(&self, d: DispNo, end: &AheadEnd) -> Need
         requires there { d.0 < length self.now.states }
         requires proper { IsTrue (is_proper_end end.now) }
-        ensures { (time : ℕ) (x : ControlBlock) (a : plain.Ahead) → x.parts.caps ≡ self.now.parts.caps → end_seen end.now ≡ a.end → result ≡ need_of (after_ahead time x d.0 a a.end) }
+        ensures { (time : ℕ) (x : ControlBlock) (a : plain.Ahead) → x.parts.caps ≡ self.now.parts.caps → end_seen end.now ≡ a.end →
+            result ≡ need_of (after_ahead time x d.0 a a.end) }
     {
         match end {
             AheadEnd::Quantum => Need::Nothing,
@@ -113,7 +114,8 @@ impl<R: ReadyList, T: TimerQueue> Form<R, T> {
         requires sound { IsSoundControl self.now }
         requires there { d.0 < length self.now.states }
         requires quantum { quantum ≤ 64 }
-        ensures end { (code : List ℕ) (x : Context) → slice_get self.now.parts.code d.0 ≡ Some code → slice_get self.now.parts.contexts d.0 ≡ Some x → end_seen result ≡ (plain.ahead time code quantum x self.now.parts.memory).end }
+        ensures end { (code : List ℕ) (x : Context) → slice_get self.now.parts.code d.0 ≡ Some code → slice_get self.now.parts.contexts d.0 ≡ Some x →
+            end_seen result ≡ (plain.ahead time code quantum x self.now.parts.memory).end }
         ensures proper { IsTrue (is_proper_end result) }
     {
         let disp = self.agenda.disp(d);
@@ -131,7 +133,8 @@ impl<R: ReadyList, T: TimerQueue> Form<R, T> {
         requires sound { IsSoundControl self.old }
         requires there { d.0 < length self.old.states }
         requires quantum { quantum ≤ 64 }
-        ensures plain { (code : List ℕ) (x : Context) → slice_get self.old.parts.code d.0 ≡ Some code → slice_get self.old.parts.contexts d.0 ≡ Some x → IsRun d.0 self.old self.new result (plain.ahead time code quantum x self.old.parts.memory) }
+        ensures plain { (code : List ℕ) (x : Context) → slice_get self.old.parts.code d.0 ≡ Some code → slice_get self.old.parts.contexts d.0 ≡ Some x →
+            IsRun d.0 self.old self.new result (plain.ahead time code quantum x self.old.parts.memory) }
         ensures proper { IsTrue (is_proper_end result.end) }
     {
         let mut disp = self.agenda.disp(d);
@@ -211,7 +214,8 @@ impl<R: ReadyList, T: TimerQueue> Form<R, T> {
         requires ran { part.now.ran ≤ 64 }
         requires proper { IsTrue (is_proper_end part.now.end) }
         ensures slice { (x : ControlBlock) (a : plain.Ahead) → IsRun d.0 x self.old part.now a → let h = half_of time d.0 x a in
-            Fits (need_of h) outside.old → sliced_seen self.new result (need_of h) (outside_seen outside.new) ≡ slice_end core.0 block.0 R.policy d.0 h (outside_seen outside.old) }
+            Fits (need_of h) outside.old → sliced_seen self.new result (need_of h) (outside_seen outside.new) ≡
+            slice_end core.0 block.0 R.policy d.0 h (outside_seen outside.old) }
         ensures disp { result.disp ≡ Some d }
         ensures fired { result.fired ≡ fired }
         ensures kind { (n : Needed) → Fits n outside.old → Fits n outside.new }
@@ -255,7 +259,11 @@ impl<R: ReadyList, T: TimerQueue> Form<R, T> {
         requires ran { ran ≤ 64 }
         requires proper { IsTrue (is_proper_call instr.now) }
         requires room { HasRoom outside.old }
-        ensures slice { (x : Context) (o : Op) → slice_get self.old.parts.contexts d.0 ≡ Some x → name_of instr.now ≡ Some o → let call = call_of time d.0 x instr.now self.old.parts in sliced_seen self.new result (need_of_call call) (outside_seen outside.new) ≡ with_due R.policy d.0 (after_served self.old d.0 ran o (need_of_call call) (outside_seen outside.old) (serve core.0 block.0 call (outside_seen outside.old))) }
+        ensures slice { (x : Context) (o : Op) → slice_get self.old.parts.contexts d.0 ≡ Some x → name_of instr.now ≡ Some o →
+            let call = call_of time d.0 x instr.now self.old.parts in
+            sliced_seen self.new result (need_of_call call) (outside_seen outside.new) ≡
+            with_due R.policy d.0 (after_served self.old d.0 ran o (need_of_call call) (outside_seen outside.old)
+            (serve core.0 block.0 call (outside_seen outside.old))) }
         ensures disp { result.disp ≡ Some d }
         ensures fired { result.fired ≡ fired }
         ensures kind { (n : Needed) → Fits n outside.old → Fits n outside.new }

@@ -1,10 +1,12 @@
 //! The table of a block's slots.
 
-ghost use Rattle.std.specs.Prelude.{◌≡◌, ◌+◌, ◌*◌, ◌<◌, ◌≤◌, ◌↔◌, ◌&&◌, not, [], Some, None, Ok, Err, length, OnOk, OnErr, IfOk, IfErr, IfSome, IsErrOf, IsTrue, IsFalse};
+ghost use Rattle.std.specs.Prelude.{◌≡◌, ◌+◌, ◌*◌, ◌<◌, ◌≤◌, ◌↔◌, ◌&&◌, not, [], Some, None, Ok, Err, length, OnOk, OnErr, IfOk, IfErr, IfSome};
+ghost use Rattle.std.specs.Prelude.{IsErrOf, IsTrue, IsFalse};
 ghost use Rattle.std.specs.Option.{option_map};
 ghost use Rattle.dc_base.specs.declared.numbers.SlotNo.{SlotNo as Slot};
 ghost use Rattle.dc_base.specs.declared.capabilities.CapKind.TheVariants.{Line as of_line};
-ghost use Rattle.dc_base.specs.Capabilities.{slot_number, cap_at, is_used, parent_at, with_root, with_child, after_revoke, after_delete, without_line, has_child_within, first_word};
+ghost use Rattle.dc_base.specs.Capabilities.{slot_number, cap_at, is_used, parent_at, with_root, with_child, after_revoke, after_delete};
+ghost use Rattle.dc_base.specs.Capabilities.{without_line, has_child_within, first_word};
 ghost use Rattle.dc_base.specs.Kernel.{copy_call, retype_call, delete_call, revoke_call, with_mask, memory_cap};
 ghost use Rattle.dc_caps.specs.Caps.{IsCap, IsTable};
 ghost use Rattle.dc_caps.specs.Outcomes.{IsCall, answer_of, root_fault, child_fault};
@@ -151,7 +153,12 @@ impl Table {
         requires slot { s < 16 }
         requires rights { rights ≤ 7 }
         ensures answer { result ≡ answer_of (root_fault self.old.set (slot_number d.0 s)) }
-        ensures ok { OnOk result (self.new ≡ record self.old { set = with_root (slot_number d.0 s) (record { kind = of_line line; rights = rights }) self.old.set }) }
+        ensures ok { OnOk result (self.new ≡ record self.old {
+          set = with_root (slot_number d.0 s) (record {
+            kind = of_line line;
+            rights = rights;
+          }) self.old.set;
+        }) }
         ensures err { OnErr result (self.new ≡ self.old) }
     {
         let kind = CapKind::Line(line);
@@ -186,8 +193,10 @@ impl Table {
         requires from { a < 16 }
         requires to { to.0 < 16 }
         requires slot { b < 16 }
-        ensures call { IsCall self.old self.new result (λ p. copy_call d.0 to.0 (slot_number d.0 a) (slot_number to.0 b) mask p (cap_at p.caps (slot_number d.0 a))) }
-        ensures ok { OnOk result (IfSome (cap_at self.old.set (slot_number d.0 a)) (λ cap. self.new.set ≡ with_child (slot_number d.0 a) (slot_number to.0 b) (with_mask mask cap) self.old.set)) }
+        ensures call { IsCall self.old self.new result
+            (λ p. copy_call d.0 to.0 (slot_number d.0 a) (slot_number to.0 b) mask p (cap_at p.caps (slot_number d.0 a))) }
+        ensures ok { OnOk result (IfSome (cap_at self.old.set (slot_number d.0 a)) (λ cap. self.new.set ≡
+            with_child (slot_number d.0 a) (slot_number to.0 b) (with_mask mask cap) self.old.set)) }
         ensures disps { self.new.disps ≡ self.old.disps }
         ensures err { OnErr result (self.new ≡ self.old) }
     {
@@ -224,8 +233,10 @@ impl Table {
         requires disp { d.0 < self.old.disps }
         requires from { a < 16 }
         requires slot { b < 16 }
-        ensures call { IsCall self.old self.new result (λ p. retype_call (slot_number d.0 a) (slot_number d.0 b) into_frame offset length p (cap_at p.caps (slot_number d.0 a))) }
-        ensures ok { OnOk result (IfSome (cap_at self.old.set (slot_number d.0 a)) (λ cap. self.new.set ≡ with_child (slot_number d.0 a) (slot_number d.0 b) (memory_cap into_frame (first_word cap.kind + offset) length cap.rights) self.old.set)) }
+        ensures call { IsCall self.old self.new result
+            (λ p. retype_call (slot_number d.0 a) (slot_number d.0 b) into_frame offset length p (cap_at p.caps (slot_number d.0 a))) }
+        ensures ok { OnOk result (IfSome (cap_at self.old.set (slot_number d.0 a)) (λ cap. self.new.set ≡
+            with_child (slot_number d.0 a) (slot_number d.0 b) (memory_cap into_frame (first_word cap.kind + offset) length cap.rights) self.old.set)) }
         ensures disps { self.new.disps ≡ self.old.disps }
         ensures err { OnErr result (self.new ≡ self.old) }
     {

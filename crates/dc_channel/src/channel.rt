@@ -1,4 +1,5 @@
-ghost use Rattle.std.specs.Prelude.{◌≡◌, ℕ, ◌+◌, ◌-◌, ◌^◌, ◌<◌, ◌≤◌, ◌↔◌, [], length, slice_get, Some, None, IsTrue, IfOk, OnOk, OnErr, IsErr, IsNone, IfSome, IfNone};
+ghost use Rattle.std.specs.Prelude.{◌≡◌, ℕ, ◌+◌, ◌-◌, ◌^◌, ◌<◌, ◌≤◌, ◌↔◌, [], length, slice_get, Some, None, IsTrue, IfOk, OnOk, OnErr, IsErr};
+ghost use Rattle.std.specs.Prelude.{IsNone, IfSome, IfNone};
 ghost use Rattle.dc_base.specs.Channels.{is_full, ring_after_send, ring_after_take};
 
 use circular_buffer::HeapCircularBuffer;

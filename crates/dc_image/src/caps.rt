@@ -223,7 +223,8 @@ pub fn caps_of(
 ) -> Result<Items<CapImage>, Fault>
     requires few { length items.now ≤ 16 }
     requires channels { length around.now.channels.now ≤ 64 }
-    ensures { Gives result (items_read (λ before. table_by (cap_in (around_of around.now) before)) [] (key_of (at.Key (place.Disp block disp) name.Cap)) (items_view items.now)) }
+    ensures { Gives result (items_read (λ before. table_by (cap_in (around_of around.now) before)) [] (key_of (at.Key (place.Disp block disp) name.Cap))
+        (items_view items.now)) }
 {
     let mut caps = Vec::new(alloc);
     for (i, item) in items.iter().enumerate() {

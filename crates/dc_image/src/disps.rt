@@ -131,7 +131,8 @@ pub fn disps_of(
 ) -> Result<Items<DispImage>, Fault>
     requires few { length items.now ≤ 16 }
     requires channels { length around.now.channels.now ≤ 64 }
-    ensures { Gives result (items_read (λ before. table_by (disp_in (around_of around.now))) [] (key_of (at.Key (place.Block block) name.Disp)) (items_view items.now)) }
+    ensures { Gives result (items_read (λ before. table_by (disp_in (around_of around.now))) [] (key_of (at.Key (place.Block block) name.Disp))
+        (items_view items.now)) }
 {
     let mut disps = Vec::new(alloc);
     for (i, item) in items.iter().enumerate() {

@@ -125,7 +125,8 @@ impl<W: Write + Drop> OutSink<W> {
         requires { self.old.unwritten ≡ [] }
         ensures within { IfOk result (λ n. n ≤ length piece.now) }
         ensures some { IfOk result (λ n. 0 < length piece.now → 0 < n) }
-        ensures taken { IfOk result (λ n. Adds (with_unwritten (W.contents self.old.out) []) (with_unwritten (W.contents self.new.out) []) (take n piece.now)) }
+        ensures taken { IfOk result (λ n. Adds (with_unwritten (W.contents self.old.out) [])
+            (with_unwritten (W.contents self.new.out) []) (take n piece.now)) }
         ensures nothing { OnErr result (Adds (with_unwritten (W.contents self.old.out) []) (with_unwritten (W.contents self.new.out) []) []) }
         ensures counts { self.new.faults ≡ (if is_ok result then self.old.faults else counted self.old.faults) }
         ensures written_out { self.new.unwritten ≡ [] }

@@ -30,7 +30,8 @@ fn words_behind<'w, 'a>(words: &'w [&'a [u8]], n: usize) -> &'w [&'a [u8]]
 /// A slice of a dispatcher.
 fn slice_of(words: &[&[u8]]) -> Option<What>
     ensures { let ws = texts words.now in
-        result ≡ option_map (λ e. what.Slice (record { 0 = spec.number_at ws 1 }) (record { 0 = spec.number_at ws 2 }) (spec.number_at ws 4) (spec.number_at ws 6) e (spec.last_number ws)) (entries.end_of (spec.word_at ws 7) (spec.word_at ws 8)) }
+        result ≡ option_map (λ e. what.Slice (record { 0 = spec.number_at ws 1 }) (record { 0 = spec.number_at ws 2 }) (spec.number_at ws 4)
+        (spec.number_at ws 6) e (spec.last_number ws)) (entries.end_of (spec.word_at ws 7) (spec.word_at ws 8)) }
 {
     match end_of(word_at(words, 7), word_at(words, 8)) {
         Some(end) => Some(What::Slice {
@@ -62,7 +63,8 @@ fn any_slice_of(words: &[&[u8]]) -> Option<What>
     ensures { let ws = texts words.now in
         result ≡ (if is_word "-" (spec.word_at ws 2)
         then Some (what.SliceNone (record { 0 = spec.number_at ws 1 }) (spec.number_at ws 4) (spec.last_number ws))
-        else option_map (λ e. what.Slice (record { 0 = spec.number_at ws 1 }) (record { 0 = spec.number_at ws 2 }) (spec.number_at ws 4) (spec.number_at ws 6) e (spec.last_number ws)) (entries.end_of (spec.word_at ws 7) (spec.word_at ws 8))) }
+        else option_map (λ e. what.Slice (record { 0 = spec.number_at ws 1 }) (record { 0 = spec.number_at ws 2 }) (spec.number_at ws 4) (spec.number_at ws 6)
+        e (spec.last_number ws)) (entries.end_of (spec.word_at ws 7) (spec.word_at ws 8))) }
 {
     if is_at(words, 2, "-") {
         Some(slice_none_of(words))
@@ -74,7 +76,8 @@ fn any_slice_of(words: &[&[u8]]) -> Option<What>
 /// A latched raise.
 fn intake_of(words: &[&[u8]]) -> What
     ensures { let ws = texts words.now in
-        result ≡ what.Intake (record { 0 = spec.number_at ws 1 }) (spec.number_at ws 2) (record { 0 = spec.number_at ws 3 }) (record { 0 = spec.number_at ws 4 })
+        result ≡ what.Intake (record { 0 = spec.number_at ws 1 }) (spec.number_at ws 2) (record { 0 = spec.number_at ws 3 })
+        (record { 0 = spec.number_at ws 4 })
         (if is_word "latched" (spec.word_at ws 5) then latched.Latched else latched.Coalesced) }
 {
     What::Intake {

@@ -13,7 +13,8 @@ use dc_base::commands::Refusal;
 
 /// A core's refusal of the version that it has.
 fn same_version(words: &[&[u8]]) -> Option<Refusal>
-    ensures { result ≡ option_map (refusal.SameVersion (record { 0 = spec.number_at (texts words.now) 1 })) (spec.version_of (spec.word_at (texts words.now) 2)) }
+    ensures { result ≡ option_map (refusal.SameVersion (record { 0 = spec.number_at (texts words.now) 1 }))
+        (spec.version_of (spec.word_at (texts words.now) 2)) }
 {
     let core = core_at(words, 1);
     match version_of(word_at(words, 2)) {

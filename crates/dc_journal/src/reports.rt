@@ -211,7 +211,8 @@ fn push_or_dash(line: &mut Line, n: Option<u32>)
 /// Adds a core that is on, its version and its clock.
 fn push_on(line: &mut Line, core: CoreNo, version: Version, clock: u64)
     requires { array_string_len line.old ≤ 100 }
-    ensures words { line.new.bytes ≡ add_words line.old.bytes (codes "core" ∷ decimal core.0 ∷ codes "on" ∷ version_word version ∷ codes "clock" ∷ decimal clock ∷ []) }
+    ensures words { line.new.bytes ≡ add_words line.old.bytes
+        (codes "core" ∷ decimal core.0 ∷ codes "on" ∷ version_word version ∷ codes "clock" ∷ decimal clock ∷ []) }
     ensures len { array_string_len line.new ≤ array_string_len line.old + 50 }
 {
     push_named(line, "core", core.0);
@@ -228,7 +229,8 @@ fn push_ends(
     route: Option<CoreNo>,
 )
     requires { array_string_len text.old ≤ 100 }
-    ensures words { text.new.bytes ≡ add_words text.old.bytes (codes "line" ∷ decimal line.0 ∷ codes "to" ∷ (bound_words bound ++ codes "route" ∷ number_or_dash (option_map (λ (c : CoreNo). c.0) route) ∷ [])) }
+    ensures words { text.new.bytes ≡ add_words text.old.bytes
+        (codes "line" ∷ decimal line.0 ∷ codes "to" ∷ (bound_words bound ++ codes "route" ∷ number_or_dash (option_map (λ (c : CoreNo). c.0) route) ∷ [])) }
     ensures len { array_string_len text.new ≤ array_string_len text.old + 60 }
 {
     push_named(text, "line", line.0);
@@ -241,7 +243,9 @@ fn push_ends(
 /// Adds the home block of a core, and the blocks of its share in their order.
 fn push_share(line: &mut Line, home: Option<BlockNo>, share: &ArrayVec<BlockNo, 9>)
     requires { array_string_len line.old ≤ 100 }
-    ensures words { line.new.bytes ≡ add_words line.old.bytes (codes "home" ∷ number_or_dash (option_map (λ (b : BlockNo). b.0) home) ∷ codes "share" ∷ comma_list (map (λ (b : BlockNo). b.0) share.now.items) ∷ []) }
+    ensures words { line.new.bytes ≡ add_words line.old.bytes
+        (codes "home" ∷ number_or_dash (option_map (λ (b : BlockNo). b.0) home) ∷ codes "share" ∷ comma_list
+        (map (λ (b : BlockNo). b.0) share.now.items) ∷ []) }
     ensures len { array_string_len line.new ≤ array_string_len line.old + 123 }
 {
     push_word(line, "home");

@@ -25,5 +25,8 @@ pub fn adopt_and_surrender<D: Driver>(v: Version, kcb: Kcb, now: u64) -> Kcb
 
 /// A slice of a core's turn does what a whole slice of its block does, with the object that its call needs, where it exists.
 pub fn slice_is_done()
-    ensures { (s : State) (c : ℕ) (k : Core) (b : ℕ) (r : Running) → outcome s (slice_turn c k b (Some (on_core c r))) ≡ done_outcome c k b (on_core c r) (need_in (halfway_in k.settings.quantum k.clock r)) (done (look_here k.settings s b) k.settings.quantum c b k.clock r) }
+    ensures { (s : State) (c : ℕ) (k : Core) (b : ℕ) (r : Running) →
+        outcome s (slice_turn c k b (Some (on_core c r))) ≡
+        done_outcome c k b (on_core c r) (need_in (halfway_in k.settings.quantum k.clock r))
+        (done (look_here k.settings s b) k.settings.quantum c b k.clock r) }
 {}

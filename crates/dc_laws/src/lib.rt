@@ -37,18 +37,22 @@ pub fn instructions_are_encoded()
 
 /// Each prefix of a run is a run.
 pub fn prefixes_are_runs()
-    ensures { (image : Image) (script : List ScriptLine) (journal more : List Entry) → IsTrue (run_of image script (journal ++ more)) → IsTrue (run_of image script journal) }
+    ensures { (image : Image) (script : List ScriptLine) (journal more : List Entry) → IsTrue (run_of image script (journal ++ more)) →
+        IsTrue (run_of image script journal) }
 {}
 
 /// The events of a run, with cores, kernels and handovers struck out, lead the machine of blocks from the image to the state that the run comes to.
 pub fn runs_are_struck_out()
-    ensures { (image : Image) (script : List ScriptLine) (journal : List Entry) (seen : Seen) → run image script journal ≡ Some seen → blocks_run image (struck image journal) ≡ Some seen.blocks }
+    ensures { (image : Image) (script : List ScriptLine) (journal : List Entry) (seen : Seen) → run image script journal ≡ Some seen →
+        blocks_run image (struck image journal) ≡ Some seen.blocks }
 {}
 
 /// A journal is a run exactly where it has no first bad entry, and the first bad entry is the one with which it stops being a run.
 pub fn first_bad_is_named()
-    ensures none { (image : Image) (script : List ScriptLine) (journal : List Entry) → (first_bad image script journal ≡ None) ↔ IsTrue (run_of image script journal) }
-    ensures some { (image : Image) (script : List ScriptLine) (journal : List Entry) (ticket : ℕ) → first_bad image script journal ≡ Some ticket → IsFirstBad image script journal ticket }
+    ensures none { (image : Image) (script : List ScriptLine) (journal : List Entry) →
+        (first_bad image script journal ≡ None) ↔ IsTrue (run_of image script journal) }
+    ensures some { (image : Image) (script : List ScriptLine) (journal : List Entry) (ticket : ℕ) → first_bad image script journal ≡ Some ticket →
+        IsFirstBad image script journal ticket }
 {}
 
 /// Counted steps from parent to parent lead to just the slots from which a slot descends: in any table, from the seat of each slot;
@@ -67,5 +71,6 @@ pub fn answered_scripts_rest()
 /// A revoke empties just the slots that descend from the revoked one: each other slot holds what it held, and hangs where it hung.
 pub fn a_revoke_empties_what_descends()
     ensures emptied { (x : ControlBlock) → HasCaps x → (s y : ℕ) → Descends x.parts.caps y s → seat_at (after_revoke s x.parts.caps) y ≡ None }
-    ensures kept { (x : ControlBlock) → HasCaps x → (s y : ℕ) → ¬ Descends x.parts.caps y s → seat_at (after_revoke s x.parts.caps) y ≡ seat_at x.parts.caps y }
+    ensures kept { (x : ControlBlock) → HasCaps x → (s y : ℕ) → ¬ Descends x.parts.caps y s →
+        seat_at (after_revoke s x.parts.caps) y ≡ seat_at x.parts.caps y }
 {}

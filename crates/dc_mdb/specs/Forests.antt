@@ -1,5 +1,6 @@
 -- A derivation forest: slots and their parents, ascending by slot.
-use Rattle.std.specs.Prelude.{◌≡◌, ℕ, zero, suc, ◌<◌, nat_lt, List, [], ◌∷◌, Bool, true, false, ◌==◌, ◌||◌, not, Option, Some, None, IfSome, if◌then◌else◌}
+use Rattle.std.specs.Prelude.{◌≡◌, ℕ, zero, suc, ◌<◌, nat_lt, List, [], ◌∷◌, Bool, true, false, ◌==◌, ◌||◌, not, Option, Some, None, IfSome}
+use Rattle.std.specs.Prelude.{if◌then◌else◌}
 use Rattle.std.specs.Prelude.{map, filter, find, length, is_some, slice_get}
 use Rattle.std.specs.List.{list_any}
 use Rattle.dc_base.specs.Words.{Each, is_number}

@@ -54,7 +54,8 @@ pub fn play_on<D: Driver, S: Sink>(
     requires schedule { IsValidSchedule (state_of objects).script.settings schedule.now }
     requires first { D.served Rr ≡ true }
     requires second { D.served Edf ≡ true }
-    ensures plays { Plays (S.faults sink.old) (S.faults sink.new) (S.told sink.old) (S.told sink.new) (played_text (core_run_from (state_of objects) schedule.now)) result }
+    ensures plays { Plays (S.faults sink.old) (S.faults sink.new) (S.told sink.old) (S.told sink.new)
+        (played_text (core_run_from (state_of objects) schedule.now)) result }
     ensures memory { result ≢ Err ended.Memory }
     ensures grows { S.faults sink.old ≤ S.faults sink.new }
 {

@@ -39,7 +39,8 @@ fn play_action<D: Driver, S: Sink>(
     requires polls { polls.old ≤ 1000000000 }
     requires first { D.served Rr ≡ true }
     requires second { D.served Edf ≡ true }
-    ensures plays { PlaysTo (state_of objects.old) (state_of objects.new) ticket (S.told sink.old) (S.told sink.new) result (core_step (state_of objects.old) polls.old who action.now) }
+    ensures plays { PlaysTo (state_of objects.old) (state_of objects.new) ticket (S.told sink.old) (S.told sink.new) result
+        (core_step (state_of objects.old) polls.old who action.now) }
     ensures polls { polls.new ≡ polls_then action.now polls.old (core_step (state_of objects.old) polls.old who action.now) }
     ensures few { polls.new ≤ 1000000000 }
     ensures failed { OnErr result (Rose (S.faults sink.old) (S.faults sink.new)) }

@@ -18,8 +18,10 @@ use dc_sound::{sound_keeps, the_start_is_sound};
 
 /// Each entry that a run from a sound state makes has a line, and its numbers are in range.
 pub fn entries_from_sound_states_are_in_range()
-    ensures lines { (opening : State) (schedule : List (Actor × Action)) → IsSound opening → IsTrue (list_all has_line (core_run_from opening schedule).journal) }
-    ensures ranges { (opening : State) (schedule : List (Actor × Action)) → IsSound opening → IsTrue (list_all is_in_range (core_run_from opening schedule).journal) }
+    ensures lines { (opening : State) (schedule : List (Actor × Action)) → IsSound opening →
+        IsTrue (list_all has_line (core_run_from opening schedule).journal) }
+    ensures ranges { (opening : State) (schedule : List (Actor × Action)) → IsSound opening →
+        IsTrue (list_all is_in_range (core_run_from opening schedule).journal) }
 {
     sound_keeps();
 }

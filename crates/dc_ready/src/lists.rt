@@ -34,7 +34,8 @@ pub trait ReadyList: Sized + Drop {
     /// The dispatcher that runs next, by any dues that the listed ones agree with. None where the list is empty.
     fn pick(&self) -> Option<DispNo>
         ensures some { is_some result ≡ nat_lt 0 (length (listed self.now)) }
-        ensures which { (dues : List ℕ) → AreDues dues (listed self.now) → option_map (λ (d : DispNo). d.0) result ≡ picked policy dues (dispatchers (listed self.now)) };
+        ensures which { (dues : List ℕ) → AreDues dues (listed self.now) →
+            option_map (λ (d : DispNo). d.0) result ≡ picked policy dues (dispatchers (listed self.now)) };
 
     /// Removes a dispatcher, and says whether it was there.
     fn remove(&mut self, d: DispNo) -> bool

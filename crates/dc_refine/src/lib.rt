@@ -34,20 +34,24 @@ ghost use Rattle.dc_refine.specs.Kept.{SoundnessStays};
 /// Each entry that an action gives in a sound state is a step of a run, from what agrees with the state and stands for it; and what the step comes to agrees
 /// with the state after it and stands for it.
 pub fn entries_follow()
-    ensures { (terms : Terms) (lines : List ScriptLine) (s : State) (t : Blocks) (n : Seen) (polls : ℕ) (who : Actor) (a : Action) (changes : List Change) (e : Entry) →
-        IsSound s → StandsFor s t → Agrees s n → n.blocks ≡ t → IsOf terms lines s → core_step s polls who a ≡ did changes e → Follows terms lines n e (apply s changes) }
+    ensures { (terms : Terms) (lines : List ScriptLine) (s : State) (t : Blocks) (n : Seen) (polls : ℕ) (who : Actor) (a : Action)
+        (changes : List Change) (e : Entry) →
+        IsSound s → StandsFor s t → Agrees s n → n.blocks ≡ t → IsOf terms lines s → core_step s polls who a ≡ did changes e →
+        Follows terms lines n e (apply s changes) }
 {}
 
 /// A refused command moves the place of the script on to the next command, and changes nothing else.
 pub fn refused_commands_move_on()
-    ensures { (s : State) (polls : ℕ) (who : Actor) (a : Action) (changes : List Change) (e : Entry) (q : ℕ) (r : Refusal) → core_step s polls who a ≡ did changes e → e.what ≡ what.Refused q r →
+    ensures { (s : State) (polls : ℕ) (who : Actor) (a : Action) (changes : List Change) (e : Entry) (q : ℕ) (r : Refusal) →
+        core_step s polls who a ≡ did changes e → e.what ≡ what.Refused q r →
         apply s changes ≡ record s { script = record s.script { place = next_command s.script.lines (s.script.place + 1) } } }
 {}
 
 /// The report of a sound state shows the state of blocks that it stands for, and each block once, with the core that it is on.
 pub fn reports_show()
     ensures shown { (s : State) (t : Blocks) → IsSound s → StandsFor s t → all_shown_by (report_lines s) ≡ shown t }
-    ensures blocks { (s : State) → blocks_reported (report_lines s) ≡ map (λ b. (b, holder_of (holders_from 0 s.blocks) b)) (range_with_len 0 (length s.blocks)) }
+    ensures blocks { (s : State) → blocks_reported (report_lines s) ≡
+        map (λ b. (b, holder_of (holders_from 0 s.blocks) b)) (range_with_len 0 (length s.blocks)) }
 {}
 
 /// The start of an image stands for the start of the blocks, and agrees with what is told before the first entry.
@@ -60,13 +64,17 @@ pub fn starts_agree()
 /// Where soundness is kept, the journal of a schedule's run is a run of the image and the script, and its report shows the last state of that run, each
 /// block once with its holder; the last state is sound, stands for the last blocks, and agrees with all that the journal has told.
 pub fn runs_are_reported()
-    ensures reported { (image : Image) (script : List ScriptLine) (schedule : List (Actor × Action)) → IsValid image → IsSound (core_start image script) → SoundnessStays →
+    ensures reported { (image : Image) (script : List ScriptLine) (schedule : List (Actor × Action)) → IsValid image →
+        IsSound (core_start image script) → SoundnessStays →
         IsReportedRun image script (core_run image script schedule).journal (report_lines (core_run image script schedule).state) }
-    ensures stands { (image : Image) (script : List ScriptLine) (schedule : List (Actor × Action)) → IsValid image → IsSound (core_start image script) → SoundnessStays →
+    ensures stands { (image : Image) (script : List ScriptLine) (schedule : List (Actor × Action)) → IsValid image →
+        IsSound (core_start image script) → SoundnessStays →
         (seen : Seen) → run image script (core_run image script schedule).journal ≡ Some seen → StandsFor (core_run image script schedule).state seen.blocks }
-    ensures agrees { (image : Image) (script : List ScriptLine) (schedule : List (Actor × Action)) → IsValid image → IsSound (core_start image script) → SoundnessStays →
+    ensures agrees { (image : Image) (script : List ScriptLine) (schedule : List (Actor × Action)) → IsValid image →
+        IsSound (core_start image script) → SoundnessStays →
         (seen : Seen) → run image script (core_run image script schedule).journal ≡ Some seen → Agrees (core_run image script schedule).state seen }
-    ensures sound { (image : Image) (script : List ScriptLine) (schedule : List (Actor × Action)) → IsValid image → IsSound (core_start image script) → SoundnessStays →
+    ensures sound { (image : Image) (script : List ScriptLine) (schedule : List (Actor × Action)) → IsValid image →
+        IsSound (core_start image script) → SoundnessStays →
         IsSound (core_run image script schedule).state }
 {}
 
@@ -80,7 +88,8 @@ pub fn openings_stand()
 /// The start of an image is an opening, and what a run starts from by the words of the image is what it starts from by this opening.
 pub fn starts_are_openings()
     ensures opening { (image : Image) (script : List ScriptLine) → IsValid image → IsSound (core_start image script) → IsOpening (core_start image script) }
-    ensures same { (image : Image) (script : List ScriptLine) → IsValid image → IsSound (core_start image script) → image_origin image script ≡ opening_origin (core_start image script) }
+    ensures same { (image : Image) (script : List ScriptLine) → IsValid image → IsSound (core_start image script) →
+        image_origin image script ≡ opening_origin (core_start image script) }
 {}
 
 /// Of each lawful history from a sound state, the run of the schedule that it shows has that journal, and comes to the state after it.
@@ -94,7 +103,8 @@ pub fn lawful_histories_are_runs()
 /// The journal of each run of a schedule is a lawful history, and leads to the last state of the run.
 pub fn runs_are_lawful_histories()
     ensures lawful { (t : Settings) (s : State) (schedule : List (Actor × Action)) → IsLawfulHistory t s (history_of t (core_run_from s schedule).journal) }
-    ensures state { (t : Settings) (s : State) (schedule : List (Actor × Action)) → after s (history_of t (core_run_from s schedule).journal) ≡ (core_run_from s schedule).state }
+    ensures state { (t : Settings) (s : State) (schedule : List (Actor × Action)) →
+        after s (history_of t (core_run_from s schedule).journal) ≡ (core_run_from s schedule).state }
 {}
 
 /// Where soundness is kept, the journal of a schedule's run from an opening and its report are a reported run from there; its last state stands for the last
@@ -103,10 +113,13 @@ pub fn openings_run()
     ensures reported { (s : State) (schedule : List (Actor × Action)) → IsOpening s → SoundnessStays →
         IsReportedRunFrom s (core_run_from s schedule).journal (report_lines (core_run_from s schedule).state) }
     ensures stands { (s : State) (schedule : List (Actor × Action)) → IsOpening s → SoundnessStays →
-        (seen : Seen) → run_from (terms_at s) s.script.lines (seen_opened s) (core_run_from s schedule).journal ≡ Some seen → StandsFor (core_run_from s schedule).state seen.blocks }
+        (seen : Seen) → run_from (terms_at s) s.script.lines (seen_opened s) (core_run_from s schedule).journal ≡ Some seen →
+        StandsFor (core_run_from s schedule).state seen.blocks }
     ensures shown { (s : State) (schedule : List (Actor × Action)) → IsOpening s → SoundnessStays →
-        (seen : Seen) → run_from (terms_at s) s.script.lines (seen_opened s) (core_run_from s schedule).journal ≡ Some seen → all_shown_by (report_lines (core_run_from s schedule).state) ≡ shown seen.blocks }
+        (seen : Seen) → run_from (terms_at s) s.script.lines (seen_opened s) (core_run_from s schedule).journal ≡ Some seen →
+        all_shown_by (report_lines (core_run_from s schedule).state) ≡ shown seen.blocks }
     ensures agrees { (s : State) (schedule : List (Actor × Action)) → IsOpening s → SoundnessStays →
-        (seen : Seen) → run_from (terms_at s) s.script.lines (seen_opened s) (core_run_from s schedule).journal ≡ Some seen → Agrees (core_run_from s schedule).state seen }
+        (seen : Seen) → run_from (terms_at s) s.script.lines (seen_opened s) (core_run_from s schedule).journal ≡ Some seen →
+        Agrees (core_run_from s schedule).state seen }
     ensures sound { (s : State) (schedule : List (Actor × Action)) → IsOpening s → SoundnessStays → IsSound (core_run_from s schedule).state }
 {}

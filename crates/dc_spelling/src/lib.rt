@@ -13,7 +13,8 @@ ghost use Rattle.dc_base.specs.TextWords.{lines_of};
 /// What is spelled is read: of entries that have lines and whose numbers are in range, the lines are read as just these entries, where nothing or a report
 /// follows.
 pub fn what_is_spelled_is_read()
-    ensures { (es : List Entry) (rest : List ℕ) → IsTrue (list_all has_line es) → IsTrue (list_all is_in_range es) → EndsJournal rest → journal_of (journal_text es ++ rest) ≡ Ok es }
+    ensures { (es : List Entry) (rest : List ℕ) → IsTrue (list_all has_line es) → IsTrue (list_all is_in_range es) → EndsJournal rest →
+        journal_of (journal_text es ++ rest) ≡ Ok es }
 {}
 
 /// What is read is spelled: the entries that a text says have lines and are in range, and the text begins with just these lines; behind them nothing or a

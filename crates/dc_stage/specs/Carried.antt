@@ -9,7 +9,18 @@ use Rattle.dc_stage.specs.declared.view.View.{View}
 
 -- what contracts see of a pass, of its view
 abbrev pub known_of : {Sc En : Type 0} → TableId → View Sc En → Known Sc En
-known_of t v = record { table_id = t; scene = v.scene; actor = v.actor; seen = v.seen; holds = v.holds; took = v.took; refused = v.refused; first = v.first; made = v.made; joined = v.joined }
+known_of t v = record {
+  table_id = t;
+  scene = v.scene;
+  actor = v.actor;
+  seen = v.seen;
+  holds = v.holds;
+  took = v.took;
+  refused = v.refused;
+  first = v.first;
+  made = v.made;
+  joined = v.joined;
+}
 
 -- the numbers of the slots that a seat carries
 abbrev pub keys : {X : Type 0} → List (ℕ × X) → List ℕ

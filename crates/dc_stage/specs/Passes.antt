@@ -67,7 +67,18 @@ module _ {Sc En : Type 0} where
   -- the pass that it made: the next actor's, which has seen as much
   abbrev pub made_by : Known Sc En → Known Sc En
   made_by k =
-      record { table_id = k.table_id; scene = k.scene; actor = k.made; seen = k.seen; holds = []; took = []; refused = []; first = false; made = 0; joined = [] }
+      record {
+        table_id = k.table_id;
+        scene = k.scene;
+        actor = k.made;
+        seen = k.seen;
+        holds = [];
+        took = [];
+        refused = [];
+        first = false;
+        made = 0;
+        joined = [];
+      }
 
   -- the pass as it is known when it ends
   abbrev pub past_of : Known Sc En → Past En

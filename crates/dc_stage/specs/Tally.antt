@@ -36,7 +36,8 @@ number-added w i named = spread (i == 0) (i == 1) w.0 w.1 (one_at 0 named) (one_
 no_gain : (i named : ℕ) → i ≢ named → gain i named ≡ 0
 unfolding gain
 no_gain i named n = dite (ℕ_discrete i 0)
-    (λ z. ap (λ b. cond b (one_at 0 named) (cond (i == 1) (one_at 1 named) 0)) (eq-eqb i 0 z) ∙ ap (λ b. cond {A = ℕ} b 1 0) (ne_eqb named 0 (λ h. n (z ∙ sym h))))
+    (λ z. ap (λ b. cond b (one_at 0 named) (cond (i == 1) (one_at 1 named) 0)) (eq-eqb i 0 z)
+    ∙ ap (λ b. cond {A = ℕ} b 1 0) (ne_eqb named 0 (λ h. n (z ∙ sym h))))
     (λ nz. ap (λ b. cond b (one_at 0 named) (cond (i == 1) (one_at 1 named) 0)) (ne_eqb i 0 nz) ∙ dite (ℕ_discrete i 1)
     (λ o. ap (λ b. cond b (one_at 1 named) 0) (eq-eqb i 1 o) ∙ ap (λ b. cond {A = ℕ} b 1 0) (ne_eqb named 1 (λ h. n (o ∙ sym h))))
     (λ no. ap (λ b. cond b (one_at 1 named) 0) (ne_eqb i 1 no)))

@@ -8,7 +8,19 @@ use Rattle.dc_stage.specs.declared.view.Past.{Past}
 module _ {Sc En : Type 0} where
   -- the first pass of a stage
   abbrev pub newcomer : Sc → View Sc En
-  newcomer sc = record { live = true; scene = Some sc; actor = 0; seen = []; holds = []; took = []; refused = []; first = true; made = 1; told = []; joined = [] }
+  newcomer sc = record {
+    live = true;
+    scene = Some sc;
+    actor = 0;
+    seen = [];
+    holds = [];
+    took = [];
+    refused = [];
+    first = true;
+    made = 1;
+    told = [];
+    joined = [];
+  }
 
   -- object i is taken, and the log is seen
   abbrev pub taking : View Sc En → ℕ → Log En → View Sc En
@@ -32,7 +44,19 @@ module _ {Sc En : Type 0} where
 
   -- the pass that is made, which has seen as much
   abbrev pub made_of : View Sc En → View Sc En
-  made_of v = record { live = true; scene = v.scene; actor = v.made; seen = v.seen; holds = []; took = []; refused = []; first = false; made = 0; told = []; joined = [] }
+  made_of v = record {
+    live = true;
+    scene = v.scene;
+    actor = v.made;
+    seen = v.seen;
+    holds = [];
+    took = [];
+    refused = [];
+    first = false;
+    made = 0;
+    told = [];
+    joined = [];
+  }
 
   -- what is kept of a pass that ends
   abbrev pub past_of : View Sc En → Past En
@@ -44,4 +68,16 @@ module _ {Sc En : Type 0} where
 
   -- what is left of it
   abbrev pub ended : View Sc En
-  ended = record { live = false; scene = None; actor = 0; seen = []; holds = []; took = []; refused = []; first = false; made = 0; told = []; joined = [] }
+  ended = record {
+    live = false;
+    scene = None;
+    actor = 0;
+    seen = [];
+    holds = [];
+    took = [];
+    refused = [];
+    first = false;
+    made = 0;
+    told = [];
+    joined = [];
+  }

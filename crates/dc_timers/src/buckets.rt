@@ -101,7 +101,8 @@ impl Buckets {
     pub(crate) fn soonest_of_bucket(&self, deadline: u64) -> usize
         requires { (j : ℕ) × (t : Timer) × (slice_get self.now j ≡ Some t) × (t.deadline ≡ deadline) }
         ensures within { result < length self.now }
-        ensures soonest { (j : ℕ) (t u : Timer) → slice_get self.now result ≡ Some t → slice_get self.now j ≡ Some u → u.deadline ≡ deadline → is_sooner u t ≡ false }
+        ensures soonest { (j : ℕ) (t u : Timer) → slice_get self.now result ≡ Some t → slice_get self.now j ≡ Some u →
+            u.deadline ≡ deadline → is_sooner u t ≡ false }
     {
         let bucket = bucket_of(deadline);
         let from = self.starts[bucket] as usize;

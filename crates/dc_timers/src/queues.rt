@@ -35,7 +35,8 @@ pub trait TimerQueue: Sized + Drop {
         requires { next self.old < 2 ^ 32 - 1 }
         ensures full { IsErr result ↔ (64 ≤ length (armed self.old)) }
         ensures number { IfOk result (λ n. n ≡ next self.old) }
-        ensures armed { OnOk result (armed self.new ≡ armed self.old ++ record { deadline = deadline; number = next self.old; signal = signal; value = value } ∷ []) }
+        ensures armed { OnOk result (armed self.new ≡
+            armed self.old ++ record { deadline = deadline; number = next self.old; signal = signal; value = value } ∷ []) }
         ensures next { OnOk result (next self.new ≡ next self.old + 1) }
         ensures same { OnErr result (self.new ≡ self.old) };
 

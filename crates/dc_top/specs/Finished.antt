@@ -7,4 +7,5 @@ use Rattle.dc_io.specs.Told.{Adds, KeepsBeginning}
 pub data WrittenOut (holds_back : Bool) (faults faults_after : ℕ) (told told_after : Option (List ℕ)) (status : ℕ) : ℕ → Type 0 where
   untouched : status ≡ 7 → faults_after ≡ faults → told_after ≡ told → WrittenOut holds_back faults faults_after told told_after status 7
   all_out : status ≢ 7 → faults ≤ faults_after → Adds told told_after [] → WrittenOut holds_back faults faults_after told told_after status status
-  end_lost : IsTrue holds_back → Rose faults faults_after → KeepsBeginning told told_after → WrittenOut holds_back faults faults_after told told_after status 6
+  end_lost : IsTrue holds_back → Rose faults faults_after → KeepsBeginning told told_after →
+      WrittenOut holds_back faults faults_after told told_after status 6

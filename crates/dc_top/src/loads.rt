@@ -121,7 +121,8 @@ pub fn load_play<'a, H: Shelf>(
     schedule: &'a str,
     shelf: &mut H,
 ) -> Result<(Image, Script, Schedule), Halt<'a>>
-    ensures ready { IfOk result (λ r. OfFiles (H.told shelf.old) image.now script.now schedule.now (λ bytes. IsReady bytes.image bytes.script bytes.schedule r.0 r.1 r.2)) }
+    ensures ready { IfOk result (λ r. OfFiles (H.told shelf.old) image.now script.now schedule.now
+        (λ bytes. IsReady bytes.image bytes.script bytes.schedule r.0 r.1 r.2)) }
     ensures valid_image { IfOk result (λ r. IsValid r.0) }
     ensures valid_script { IfOk result (λ r. IsValidScript (settings_of r.0) r.1) }
     ensures valid_schedule { IfOk result (λ r. IsValidSchedule (settings_of r.0) r.2) }

@@ -33,7 +33,9 @@ impl<R: ReadyList, T: TimerQueue> Form<R, T> {
         requires running { IsRunning d.0 self.old }
         requires proper { IsTrue (is_proper (CsendInstr a b imm)) }
         requires room { HasRoom outside.old }
-        ensures served { (c n time : ℕ) (x : Context) → slice_get self.old.parts.contexts d.0 ≡ Some x → Serves c n (call_of time d.0 x (CsendInstr a b imm) self.old.parts) self.old self.new (outside_seen outside.old) (outside_seen outside.new) result }
+        ensures served { (c n time : ℕ) (x : Context) → slice_get self.old.parts.contexts d.0 ≡ Some x →
+            Serves c n (call_of time d.0 x (CsendInstr a b imm) self.old.parts) self.old self.new (outside_seen outside.old)
+            (outside_seen outside.new) result }
         ensures kind { (m : Need) → Fits m outside.old → Fits m outside.new }
     {
         let between = match self.between(Way::Csend, d, a, b, imm) {
@@ -63,7 +65,9 @@ impl<R: ReadyList, T: TimerQueue> Form<R, T> {
     ) -> Answer
         requires running { IsRunning d.0 self.old }
         requires proper { IsTrue (is_proper (CrecvInstr a b imm)) }
-        ensures served { (c n time : ℕ) (x : Context) → slice_get self.old.parts.contexts d.0 ≡ Some x → Serves c n (call_of time d.0 x (CrecvInstr a b imm) self.old.parts) self.old self.new (outside_seen outside.old) (outside_seen outside.new) result }
+        ensures served { (c n time : ℕ) (x : Context) → slice_get self.old.parts.contexts d.0 ≡ Some x →
+            Serves c n (call_of time d.0 x (CrecvInstr a b imm) self.old.parts) self.old self.new (outside_seen outside.old)
+            (outside_seen outside.new) result }
         ensures kind { (m : Need) → Fits m outside.old → Fits m outside.new }
     {
         let between = match self.between(Way::Crecv, d, a, b, imm) {

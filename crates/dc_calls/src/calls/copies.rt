@@ -20,7 +20,8 @@ impl<R: ReadyList, T: TimerQueue> Form<R, T> {
     pub(crate) fn copy(&mut self, d: DispNo, a: u32, b: u32, imm: u32) -> Answer
         requires running { IsRunning d.0 self.old }
         requires proper { IsTrue (is_proper (Copy a b imm)) }
-        ensures served { (c n time : ℕ) (out : Seen) (x : Context) → slice_get self.old.parts.contexts d.0 ≡ Some x → Serves c n (call_of time d.0 x (Copy a b imm) self.old.parts) self.old self.new out out result }
+        ensures served { (c n time : ℕ) (out : Seen) (x : Context) → slice_get self.old.parts.contexts d.0 ≡ Some x →
+            Serves c n (call_of time d.0 x (Copy a b imm) self.old.parts) self.old self.new out out result }
     {
         let to = DispNo(imm / 16);
         if let Err(fault) = self.table.copy(d, a, to, b, (imm % 16) as u8) {

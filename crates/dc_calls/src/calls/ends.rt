@@ -142,7 +142,8 @@ impl<R: ReadyList, T: TimerQueue> Form<R, T> {
         requires end { a < 16 }
         requires frame { b < 16 }
         requires imm { imm < 2 ^ 16 }
-        ensures call { (call : Call) → with_end_and_frame (is_end way) (end_right way) (frame_right way) imm (cap_in d.0 self.now.parts a) (cap_in d.0 self.now.parts b) call ≡ allowed result call }
+        ensures call { (call : Call) → with_end_and_frame (is_end way) (end_right way) (frame_right way) imm (cap_in d.0 self.now.parts a)
+            (cap_in d.0 self.now.parts b) call ≡ allowed result call }
         ensures end { IfOk result (λ (r : Passage). r.end ≡ number_in (cap_in d.0 self.now.parts a)) }
         ensures named { IfOk result (λ (r : Passage). NamesOwn self.now (end_kind way r.end)) }
         ensures address { IfOk result (λ (r : Passage). r.address ≡ first_in (cap_in d.0 self.now.parts b) + imm) }

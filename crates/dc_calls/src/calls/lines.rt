@@ -32,7 +32,9 @@ impl<R: ReadyList, T: TimerQueue> Form<R, T> {
     ) -> Answer
         requires running { IsRunning d.0 self.old }
         requires proper { IsTrue (is_proper (Bind a b)) }
-        ensures served { (time : ℕ) (x : Context) → slice_get self.old.parts.contexts d.0 ≡ Some x → Serves core.0 block.0 (call_of time d.0 x (Bind a b) self.old.parts) self.old self.new (outside_seen outside.old) (outside_seen outside.new) result }
+        ensures served { (time : ℕ) (x : Context) → slice_get self.old.parts.contexts d.0 ≡ Some x →
+            Serves core.0 block.0 (call_of time d.0 x (Bind a b) self.old.parts) self.old self.new (outside_seen outside.old)
+            (outside_seen outside.new) result }
         ensures kind { (m : Need) → Fits m outside.old → Fits m outside.new }
     {
         let signal = match to_bind(self.table.look(d, a), self.table.look(d, b)) {
@@ -51,7 +53,8 @@ impl<R: ReadyList, T: TimerQueue> Form<R, T> {
     pub(crate) fn give(&mut self, d: DispNo, a: u32, b: u32, outside: &mut Outside) -> Answer
         requires running { IsRunning d.0 self.old }
         requires proper { IsTrue (is_proper (Give a b)) }
-        ensures served { (c n time : ℕ) (x : Context) → slice_get self.old.parts.contexts d.0 ≡ Some x → Serves c n (call_of time d.0 x (Give a b) self.old.parts) self.old self.new (outside_seen outside.old) (outside_seen outside.new) result }
+        ensures served { (c n time : ℕ) (x : Context) → slice_get self.old.parts.contexts d.0 ≡ Some x →
+            Serves c n (call_of time d.0 x (Give a b) self.old.parts) self.old self.new (outside_seen outside.old) (outside_seen outside.new) result }
         ensures kind { (m : Need) → Fits m outside.old → Fits m outside.new }
     {
         let gift = match to_give(self.table.look(d, a), self.table.look(d, b)) {
@@ -78,7 +81,8 @@ impl<R: ReadyList, T: TimerQueue> Form<R, T> {
     ) -> Answer
         requires running { IsRunning d.0 self.old }
         requires proper { IsTrue (is_proper (Claim a b imm)) }
-        ensures served { (c n time : ℕ) (x : Context) → slice_get self.old.parts.contexts d.0 ≡ Some x → Serves c n (call_of time d.0 x (Claim a b imm) self.old.parts) self.old self.new (outside_seen outside.old) (outside_seen outside.new) result }
+        ensures served { (c n time : ℕ) (x : Context) → slice_get self.old.parts.contexts d.0 ≡ Some x →
+            Serves c n (call_of time d.0 x (Claim a b imm) self.old.parts) self.old self.new (outside_seen outside.old) (outside_seen outside.new) result }
         ensures kind { (m : Need) → Fits m outside.old → Fits m outside.new }
     {
         let channel = match to_claim(self.table.look(d, a), self.table.look(d, b).is_some()) {

@@ -23,7 +23,8 @@ impl<R: ReadyList, T: TimerQueue> Form<R, T> {
     pub(crate) fn send(&mut self, d: DispNo, a: u32, b: u32, imm: u32) -> Answer
         requires running { IsRunning d.0 self.old }
         requires proper { IsTrue (is_proper (SendInstr a b imm)) }
-        ensures served { (c n time : ℕ) (out : Seen) (x : Context) → slice_get self.old.parts.contexts d.0 ≡ Some x → Serves c n (call_of time d.0 x (SendInstr a b imm) self.old.parts) self.old self.new out out result }
+        ensures served { (c n time : ℕ) (out : Seen) (x : Context) → slice_get self.old.parts.contexts d.0 ≡ Some x →
+            Serves c n (call_of time d.0 x (SendInstr a b imm) self.old.parts) self.old self.new out out result }
     {
         let between = match self.between(Way::Send, d, a, b, imm) {
             Ok(between) => between,
@@ -42,7 +43,8 @@ impl<R: ReadyList, T: TimerQueue> Form<R, T> {
     pub(crate) fn recv(&mut self, d: DispNo, a: u32, b: u32, imm: u32) -> Answer
         requires running { IsRunning d.0 self.old }
         requires proper { IsTrue (is_proper (RecvInstr a b imm)) }
-        ensures served { (c n time : ℕ) (out : Seen) (x : Context) → slice_get self.old.parts.contexts d.0 ≡ Some x → Serves c n (call_of time d.0 x (RecvInstr a b imm) self.old.parts) self.old self.new out out result }
+        ensures served { (c n time : ℕ) (out : Seen) (x : Context) → slice_get self.old.parts.contexts d.0 ≡ Some x →
+            Serves c n (call_of time d.0 x (RecvInstr a b imm) self.old.parts) self.old self.new out out result }
     {
         let between = match self.between(Way::Recv, d, a, b, imm) {
             Ok(between) => between,

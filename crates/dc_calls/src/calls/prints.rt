@@ -23,7 +23,8 @@ impl<R: ReadyList, T: TimerQueue> Form<R, T> {
     pub(crate) fn print(&mut self, d: DispNo, a: u32, outside: &mut Outside) -> Answer
         requires running { IsRunning d.0 self.old }
         requires proper { IsTrue (is_proper (Out a)) }
-        ensures served { (c n time : ℕ) (x : Context) → slice_get self.old.parts.contexts d.0 ≡ Some x → Serves c n (call_of time d.0 x (Out a) self.old.parts) self.old self.new (outside_seen outside.old) (outside_seen outside.new) result }
+        ensures served { (c n time : ℕ) (x : Context) → slice_get self.old.parts.contexts d.0 ≡ Some x →
+            Serves c n (call_of time d.0 x (Out a) self.old.parts) self.old self.new (outside_seen outside.old) (outside_seen outside.new) result }
         ensures kind { (m : Need) → Fits m outside.old → Fits m outside.new }
     {
         let word = self.agenda.disp(d).regs[a as usize];
@@ -40,7 +41,8 @@ impl<R: ReadyList, T: TimerQueue> Form<R, T> {
     /// Lets others run first.
     pub(crate) fn give_way(&mut self, d: DispNo) -> Answer
         requires running { IsRunning d.0 self.old }
-        ensures served { (c n time : ℕ) (out : Seen) (x : Context) → slice_get self.old.parts.contexts d.0 ≡ Some x → Serves c n (call_of time d.0 x Yield self.old.parts) self.old self.new out out result }
+        ensures served { (c n time : ℕ) (out : Seen) (x : Context) → slice_get self.old.parts.contexts d.0 ≡ Some x →
+            Serves c n (call_of time d.0 x Yield self.old.parts) self.old self.new out out result }
     {
         self.go_on(d);
         Answer::Made(None)

@@ -20,7 +20,8 @@ impl<R: ReadyList, T: TimerQueue> Form<R, T> {
     pub(crate) fn delete(&mut self, d: DispNo, a: u32) -> Answer
         requires running { IsRunning d.0 self.old }
         requires proper { IsTrue (is_proper (Delete a)) }
-        ensures served { (c n time : ℕ) (out : Seen) (x : Context) → slice_get self.old.parts.contexts d.0 ≡ Some x → Serves c n (call_of time d.0 x (Delete a) self.old.parts) self.old self.new out out result }
+        ensures served { (c n time : ℕ) (out : Seen) (x : Context) → slice_get self.old.parts.contexts d.0 ≡ Some x →
+            Serves c n (call_of time d.0 x (Delete a) self.old.parts) self.old self.new out out result }
     {
         if let Err(fault) = self.table.delete(d, a) {
             return Answer::Fault(trap(fault));
@@ -33,7 +34,8 @@ impl<R: ReadyList, T: TimerQueue> Form<R, T> {
     pub(crate) fn revoke(&mut self, d: DispNo, a: u32) -> Answer
         requires running { IsRunning d.0 self.old }
         requires proper { IsTrue (is_proper (Revoke a)) }
-        ensures served { (c n time : ℕ) (out : Seen) (x : Context) → slice_get self.old.parts.contexts d.0 ≡ Some x → Serves c n (call_of time d.0 x (Revoke a) self.old.parts) self.old self.new out out result }
+        ensures served { (c n time : ℕ) (out : Seen) (x : Context) → slice_get self.old.parts.contexts d.0 ≡ Some x →
+            Serves c n (call_of time d.0 x (Revoke a) self.old.parts) self.old self.new out out result }
     {
         if let Err(fault) = self.table.revoke(d, a) {
             return Answer::Fault(trap(fault));

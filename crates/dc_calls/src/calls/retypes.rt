@@ -21,7 +21,8 @@ impl<R: ReadyList, T: TimerQueue> Form<R, T> {
     pub(crate) fn retype(&mut self, d: DispNo, a: u32, b: u32, imm: u32) -> Answer
         requires running { IsRunning d.0 self.old }
         requires proper { IsTrue (is_proper (Retype a b imm)) }
-        ensures served { (c n time : ℕ) (out : Seen) (x : Context) → slice_get self.old.parts.contexts d.0 ≡ Some x → Serves c n (call_of time d.0 x (Retype a b imm) self.old.parts) self.old self.new out out result }
+        ensures served { (c n time : ℕ) (out : Seen) (x : Context) → slice_get self.old.parts.contexts d.0 ≡ Some x →
+            Serves c n (call_of time d.0 x (Retype a b imm) self.old.parts) self.old self.new out out result }
     {
         let regs = self.agenda.disp(d).regs;
         if let Err(fault) = self.table.retype(d, a, b, imm == 1, regs[6], regs[7]) {

@@ -27,7 +27,8 @@ use dc_timers::TimerQueue;
 
 /// The signal that a slot names with a right, by what the slot holds.
 fn signal_of(a: Option<Cap>, right: u8) -> Result<SignalNo, CapFault>
-    ensures call { (call : ℕ → Call) → (if is_none a then faults 4 else if is_other is_signal a then faults 6 else if lacks right a then faults 7 else call (number_in a)) ≡ on_signal result call }
+    ensures call { (call : ℕ → Call) → (if is_none a then faults 4 else if is_other is_signal a then faults 6 else if lacks right a then faults 7
+        else call (number_in a)) ≡ on_signal result call }
     ensures signal { IfOk result (λ (s : Number). option_map (λ (cap : Held). cap.kind) a ≡ Some (of_signal s)) }
 {
     let Some(a) = a else {
@@ -47,7 +48,9 @@ impl<R: ReadyList, T: TimerQueue> Form<R, T> {
     fn signal(&self, d: DispNo, a: u32, right: u8) -> Result<SignalNo, CapFault>
         requires running { IsRunning d.0 self.now }
         requires slot { a < 16 }
-        ensures call { (call : ℕ → Call) → let o = cap_in d.0 self.now.parts a in (if is_none o then faults 4 else if is_other is_signal o then faults 6 else if lacks right o then faults 7 else call (number_in o)) ≡ on_signal result call }
+        ensures call { (call : ℕ → Call) → let o = cap_in d.0 self.now.parts a in
+            (if is_none o then faults 4 else if is_other is_signal o then faults 6 else if lacks right o then faults 7
+            else call (number_in o)) ≡ on_signal result call }
         ensures named { IfOk result (λ (s : Number). s.0 < length self.now.parts.signals) }
     {
         let held = self.table.look(d, a);
@@ -58,7 +61,8 @@ impl<R: ReadyList, T: TimerQueue> Form<R, T> {
     pub(crate) fn wait(&mut self, d: DispNo, a: u32, b: u32) -> Answer
         requires running { IsRunning d.0 self.old }
         requires proper { IsTrue (is_proper (WaitInstr a b)) }
-        ensures served { (c n time : ℕ) (out : Seen) (x : Context) → slice_get self.old.parts.contexts d.0 ≡ Some x → Serves c n (call_of time d.0 x (WaitInstr a b) self.old.parts) self.old self.new out out result }
+        ensures served { (c n time : ℕ) (out : Seen) (x : Context) → slice_get self.old.parts.contexts d.0 ≡ Some x →
+            Serves c n (call_of time d.0 x (WaitInstr a b) self.old.parts) self.old self.new out out result }
     {
         let signal = match self.signal(d, a, READ) {
             Ok(signal) => signal,
@@ -80,7 +84,8 @@ impl<R: ReadyList, T: TimerQueue> Form<R, T> {
         requires proper { IsTrue (is_proper (ArmInstr a b imm)) }
         requires time { time < 2 ^ 63 }
         requires timers { self.old.parts.next_timer < 2 ^ 32 - 1 }
-        ensures served { (c n : ℕ) (out : Seen) (x : Context) → slice_get self.old.parts.contexts d.0 ≡ Some x → Serves c n (call_of time d.0 x (ArmInstr a b imm) self.old.parts) self.old self.new out out result }
+        ensures served { (c n : ℕ) (out : Seen) (x : Context) → slice_get self.old.parts.contexts d.0 ≡ Some x →
+            Serves c n (call_of time d.0 x (ArmInstr a b imm) self.old.parts) self.old self.new out out result }
     {
         let signal = match self.signal(d, a, WRITE) {
             Ok(signal) => signal,

@@ -99,7 +99,8 @@ pub(super) fn to_csend(a: Option<Cap>, b: Option<Cap>, imm: u32) -> Result<ChanN
 pub(super) fn to_crecv(a: Option<Cap>, b: Option<Cap>, imm: u32) -> Result<ChanNo, CapFault>
     requires imm { imm < 2 ^ 16 }
     requires form { IfSome b IsCap }
-    ensures { (address : ℕ) (p : Parts) → with_end_and_frame is_recv_end read_right write_right imm a b (receives (number_in a) address p) ≡ crecv_tested address p result }
+    ensures { (address : ℕ) (p : Parts) → with_end_and_frame is_recv_end read_right write_right imm a b (receives (number_in a) address p) ≡
+        crecv_tested address p result }
 {
     match tested(Way::Crecv, a, b, imm) {
         Ok(between) => Ok(ChanNo(between.end)),
