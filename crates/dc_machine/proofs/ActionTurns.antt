@@ -8,7 +8,7 @@ use Rattle.dc_base.specs.declared.numbers.CoreNo.{CoreNo}
 use Rattle.dc_base.specs.Cores.{core_step, core_turn, turn_of}
 use Rattle.dc_base.specs.States.{State, Core}
 use Rattle.dc_base.specs.Turns.{outcome}
-use Rattle.dc_machine.specs.declared.turns.Stepped.{Stepped}
+use Rattle.dc_bodies.specs.declared.stops.Stepped.{Stepped}
 use Rattle.dc_machine.specs.Answers.{Answers, IsQuiet, polls_then}
 use Rattle.dc_machine.proofs.ScriptTurns.{quiet_other}
 

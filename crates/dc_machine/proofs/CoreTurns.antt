@@ -16,12 +16,13 @@ use Rattle.dc_base.specs.Steps.{is_runnable, step_on}
 use Rattle.dc_base.specs.IdleTurns.{next_due, idle_outcome}
 use Rattle.dc_base.specs.SliceTurns.{slice_turn}
 use Rattle.dc_base.specs.Turns.{Looked, Turn, Outcome, ends, spent, outcome}
-use Rattle.dc_machine.specs.declared.turns.Stepped.{Stepped}
-use Rattle.dc_machine.specs.declared.turns.Stepped.TheVariants as stepped
+use Rattle.dc_bodies.specs.declared.stops.Stepped.{Stepped}
+use Rattle.dc_bodies.specs.declared.stops.Stepped.TheVariants as stepped
 use Rattle.dc_machine.specs.Answers.{Answers}
-use Rattle.dc_machine.specs.InHand.{looked_in}
-use Rattle.dc_machine.specs.Nexts.{stopped, stopped_at, first_runnable}
-use Rattle.dc_machine.proofs.Firsts.{found_one}
+use Rattle.dc_bodies.specs.InHand.{looked_in}
+use Rattle.dc_bodies.specs.Nexts.{first_runnable}
+use Rattle.dc_bodies.specs.Stops.{stopped, stopped_at}
+use Rattle.dc_bodies.proofs.Firsts.{found_one}
 
 -- an action of a core that is there
 pub action_is : (s : State) (c : CoreNo) (k : Core) (a : Action) → slice_get s.cores c.0 ≡ Some k → core_step s 0 (actor.Core c) a ≡ outcome s (core_action c.0 k a)

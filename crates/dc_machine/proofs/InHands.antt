@@ -14,7 +14,7 @@ use Rattle.dc_base.specs.Words.{Each}
 use Rattle.dc_kernel.specs.Begins.{IsQuantum}
 use Rattle.dc_objects.specs.Blocks.{CanSlice}
 use Rattle.dc_sound.proofs.Times.{clock_of-at}
-use Rattle.dc_machine.specs.InHand.{AreInHand, IsInHand}
+use Rattle.dc_bodies.specs.InHand.{AreInHand, IsInHand}
 
 -- cores that used at most m each used at most m for each core
 used_most : (cores : List Core) (m : ℕ) → Each cores (λ c k. k.used ≤ m) → sum_by (λ (k : Core). k.used) cores ≤ length cores * m

@@ -1,15 +1,11 @@
 pub mod Begun
 pub mod ActionTurns
+pub mod Bodies
 pub mod CoreTurns
-pub mod Disps
-pub mod Dues
-pub mod Firsts
 pub mod InHands
 pub mod Intakings
-pub mod Lifting
 pub mod Needs
 pub mod OrderFacts
-pub mod OrderSteps
 pub mod Postings
 pub mod Putting
 pub mod Raisings
@@ -20,5 +16,3 @@ pub mod ShareChanges
 pub mod Slicing
 pub mod Sounds
 pub mod Stops
-pub mod WakeTurns
-pub mod Wakings

@@ -1,24 +1,25 @@
 -- What a sound machine says of the order in a core's mailbox.
-use Rattle.std.proofs.Common.{◌≡◌, ℕ, ◌^◌, ◌<◌, ◌≤◌, Bool, true, false, List, Option, Some, None, refl, sym, ap, ◌∙◌, subst, arith, length, get_or}
-use Rattle.std.specs.Prelude.{slice_get}
-use Rattle.std.proofs.lemmas.Option.{slice_get_read, slice_get_within, get_or_from_slice_get}
+use Rattle.std.proofs.Common.{◌≡◌, ℕ, zero, suc, [], ◌∷◌, ◌^◌, ◌<◌, ◌≤◌, Bool, true, false, List, Option, Some, None, refl, sym, ap, ◌∙◌, subst, arith, length, get_or}
+use Rattle.std.specs.Prelude.{slice_get, slice_set}
+use Rattle.std.proofs.lemmas.Option.{slice_get_past, slice_get_read, slice_get_within, get_or_from_slice_get}
+use Rattle.dc_base.specs.declared.commands.Order.{Order}
 use Rattle.dc_base.specs.declared.commands.Order.TheVariants as orders
-use Rattle.dc_base.specs.declared.kernels.Clocks.{Clocks}
-use Rattle.dc_base.specs.declared.kernels.Clocks.TheVariants as clocks
 use Rattle.dc_base.specs.declared.numbers.BlockNo.{BlockNo}
-use Rattle.dc_base.specs.Orders.{adopted_time}
+use Rattle.dc_base.specs.declared.numbers.CoreNo.{CoreNo}
 use Rattle.dc_base.specs.Outcomes.{has}
-use Rattle.dc_base.specs.Placed.{IsOn}
+use Rattle.dc_base.specs.Placed.{IsOn, count_in}
 use Rattle.dc_base.specs.Progress.{IsRest, IsAtRest}
 use Rattle.dc_base.specs.Progress.{HasRoom as Fits}
 use Rattle.dc_base.specs.Sound.{IsSound}
-use Rattle.dc_base.specs.States.{State, Core, Block, Whereabouts, rest, on, time_of, time_at}
+use Rattle.dc_base.specs.States.{State, Core, Block, Mailbox, Whereabouts, rest, on, time_of}
 use Rattle.dc_base.specs.States.{order as ordered}
+use Rattle.dc_block_sound.proofs.Walks.{set_same}
 use Rattle.dc_objects.specs.Blocks.{IsTimed}
-use Rattle.dc_objects.specs.Places.{IsRestAt, IsResting, kept_at, kept_in, IsTimedAt, IsTimedOrResting}
+use Rattle.dc_objects.specs.Places.{IsRestAt, IsResting, kept_at}
 use Rattle.dc_share.specs.Shares.{HasRoom}
+use Rattle.dc_bodies.specs.Handing.{AreTimed}
+use Rattle.dc_bodies.specs.Ordered.{CanAdopt, StandsAt}
 use Rattle.dc_machine.proofs.InHands.{budget_most, in_hand}
-use Rattle.dc_machine.proofs.ShareChanges.{ListsOnce}
 
 -- what was read at a place
 
@@ -28,42 +29,24 @@ read_at xs i x h e = slice_get_read xs (length xs) i x refl h e
 pub read_is : {A : Type 0} (xs : List A) (i : ℕ) (x y : A) → slice_get xs i ≡ Some y → x ≡ get_or xs i x → x ≡ y
 read_is xs i x y h e = e ∙ get_or_from_slice_get xs i y x h
 
-timed_by : (clock : ℕ) (x : Block) (w : Whereabouts) → IsTimed clock x → IsTimedAt clock x w
-timed_by clock x (rest kept) h = tt
-timed_by clock x (on c offset v) h = h
+-- what a slice has at a place, or that nothing is there
 
-pub timed_there : (clock : ℕ) (x : Block) → IsTimed clock x → IsTimedOrResting clock x
-timed_there clock x h = timed_by clock x x.whereabouts h
+pub found_in : {A : Type 0} (ys xs : List A) (i : ℕ) (x : A) → ys ≡ xs → i < length ys → x ≡ get_or ys i x → slice_get xs i ≡ Some x
+found_in ys xs i x same within e = ap (λ zs. slice_get zs i) (sym same) ∙ slice_get_read ys (length ys) i x refl within e
 
-resting_by : (clock : ℕ) (x : Block) (w : Whereabouts) → IsRestAt w → IsTimedAt clock x w
-resting_by clock x (rest kept) h = tt
-resting_by clock x (on c offset v) h = absurd h
+pub none_in : {A : Type 0} (ys xs : List A) (i : ℕ) → ys ≡ xs → length ys ≤ i → slice_get xs i ≡ None
+none_in ys xs i same past = ap (λ zs. slice_get zs i) (sym same) ∙ slice_get_past ys i past
 
-pub resting_there : (clock : ℕ) (x : Block) → IsResting x → IsTimedOrResting clock x
-resting_there clock x h = resting_by clock x x.whereabouts h
+pub element_at : {A : Type 0} (xs : List A) (i : ℕ) → i < length xs → (x : A) × (slice_get xs i ≡ Some x)
+element_at [] i h = absurd (omega (arith, h))
+element_at (x ∷ xs) zero h = (x, refl)
+element_at (x ∷ xs) (suc i) h = element_at xs i (omega (arith, h))
 
 -- the time of a block at rest
-
-kept_by : (clock : ℕ) (w : Whereabouts) → IsRestAt w → time_at clock w ≡ kept_at w
-kept_by clock (rest kept) h = refl
-kept_by clock (on c offset v) h = absurd h
 
 kept_of : (cores : List Core) (w : Whereabouts) → IsRestAt w → time_of cores w ≡ kept_at w
 kept_of cores (rest kept) h = refl
 kept_of cores (on c offset v) h = absurd h
-
-pub kept_time : (clock : ℕ) (x : Block) → IsResting x → time_at clock x.whereabouts ≡ kept_in x
-kept_time clock x h = kept_by clock x.whereabouts h
-
--- the time of adoption lies between the bounds of the two times
-
-pub from_kept : (t : Clocks) (kept clock : ℕ) → kept ≤ adopted_time t kept clock
-from_kept clocks.Kept kept clock = omega arith
-from_kept clocks.Running kept clock = omega arith
-
-pub adopted_below : (t : Clocks) (kept clock most : ℕ) → kept < most → clock < most → adopted_time t kept clock < most
-adopted_below clocks.Kept kept clock most h k = h
-adopted_below clocks.Running kept clock most h k = omega (arith, h, k)
 
 -- a block to be released
 pub record IsReleasable (s : State) (k : Core) (b : ℕ) : Type 0 where
@@ -76,35 +59,7 @@ pub record IsReleasable (s : State) (k : Core) (b : ℕ) : Type 0 where
 pub record IsAdoptable (s : State) (k : Core) (b : ℕ) (parked : Bool) : Type 0 where
   pub block : Block
   pub found : slice_get s.blocks b ≡ Some block
-  pub resting : IsResting block
-  pub kept : kept_in block < 2 ^ 63
-  pub clock : k.clock < 2 ^ 63
-  pub below : b < 16
-  pub apart : has k.share b ≡ false
-  pub room : HasRoom parked k.share
-
--- the time at which a block is adopted, from what was read
-pub time_is : (time kept clock : ℕ) (t : Clocks) (k : Core) (x y : Block) → time ≡ adopted_time t kept clock → t ≡ k.settings.clocks → kept ≡ time_at clock y.whereabouts → clock ≡ k.clock → y ≡ x → time ≡ adopted_time k.settings.clocks (time_at k.clock x.whereabouts) k.clock
-time_is time kept clock t k x y e f g h i =
-    e
-    ∙ ap (λ u. adopted_time u kept clock) f
-    ∙ ap (λ n. adopted_time k.settings.clocks n clock) g
-    ∙ ap (λ n. adopted_time k.settings.clocks (time_at n y.whereabouts) n) h
-    ∙ ap (λ (z : Block). adopted_time k.settings.clocks (time_at k.clock z.whereabouts) k.clock) i
-
-module _ (s : State) (k : Core) (b : ℕ) (parked : Bool) (r : IsAdoptable s k b parked) (time : ℕ) (is : time ≡ adopted_time k.settings.clocks (time_at k.clock r.block.whereabouts) k.clock) where
-  pub goes_forward : kept_in r.block ≤ time
-  goes_forward =
-      let same = kept_time k.clock r.block r.resting in
-      let more = from_kept k.settings.clocks (time_at k.clock r.block.whereabouts) k.clock in
-      omega (arith, same, more, is)
-
-  pub time_below : time < 2 ^ 63
-  time_below =
-      let same = kept_time k.clock r.block r.resting in
-      let kept : time_at k.clock r.block.whereabouts < 2 ^ 63 = let low = r.kept in omega (arith, same, low) in
-      let low = adopted_below k.settings.clocks (time_at k.clock r.block.whereabouts) k.clock (2 ^ 63) kept r.clock in
-      omega (arith, low, is)
+  pub can : CanAdopt k b parked block
 
 room_by : (parked : Bool) (k : Core) → Fits parked k → HasRoom parked k.share
 room_by false k h = h
@@ -119,8 +74,11 @@ no_core c (rest kept) h o = o
 no_core c (on d offset v) h o = h
 
 module _ (s : State) (p : IsSound s) (c : ℕ) (k : Core) (at : slice_get s.cores c ≡ Some k) where
-  pub lists_once : ListsOnce k.share
-  lists_once = record { once = (p.shares c k at).once }
+  pub lists_once : (b : ℕ) → count_in k.share b ≤ 1
+  lists_once = (p.shares c k at).once
+
+  pub all_timed : AreTimed k.clock k.share (slice_get s.blocks)
+  all_timed b h = let x = in_hand s p c k at b h in (x.0, x.1, x.2.timed)
 
   pub releasable : (b : BlockNo) → slice_get s.mailboxes c ≡ Some (ordered (orders.Release b)) → IsReleasable s k b.0
   releasable b o =
@@ -144,13 +102,35 @@ module _ (s : State) (p : IsSound s) (c : ℕ) (k : Core) (at : slice_get s.core
       record {
         block = x;
         found = e;
-        resting = resting;
-        kept = let t = p.clocked.times b.0 x e in let same = kept_of s.cores x.whereabouts resting in omega (arith, t, same, most);
-        clock = let t = p.clocked.clocks c k at in omega (arith, t, most);
-        below = let within = slice_get_within s.blocks b.0 x e in let many = p.settled.blocks in let few = p.settled.limits.blocks.1 in omega (arith, within, many, few);
-        apart = apart_by b.0 x e resting (has k.share b.0) refl;
-        room = room_by parked k room;
+        can = record {
+          resting = resting;
+          kept = let t = p.clocked.times b.0 x e in let same = kept_of s.cores x.whereabouts resting in omega (arith, t, same, most);
+          clock = let t = p.clocked.clocks c k at in omega (arith, t, most);
+          below = let within = slice_get_within s.blocks b.0 x e in let many = p.settled.blocks in let few = p.settled.limits.blocks.1 in omega (arith, within, many, few);
+          apart = apart_by b.0 x e resting (has k.share b.0) refl;
+          room = room_by parked k room;
+        };
       }
 
   pub adoptable : (b : BlockNo) (parked : Bool) → slice_get s.mailboxes c ≡ Some (ordered (orders.Adopt b parked)) → IsAdoptable s k b.0 parked
   adoptable b parked o = let fit = p.posts c (orders.Adopt b parked) k o at in adoptable_by b parked fit.2 (slice_get s.blocks b.0) refl fit.1
+
+-- the core and its mailbox stand as they were read
+
+module _ (s : State) (c : CoreNo) (k : Core) (m : Mailbox) (within : c.0 < length s.cores) (core : k ≡ get_or s.cores c.0 k) (mailbox : m ≡ get_or s.mailboxes c.0 m) where
+  pub stands : (o : Order) → slice_get s.mailboxes c.0 ≡ Some (ordered o) → StandsAt s c.0 k m
+  stands o h = record { core = read_at s.cores c.0 k within core; mailbox = read_at s.mailboxes c.0 m (slice_get_within s.mailboxes c.0 (ordered o) h) mailbox }
+
+pub mailbox_at : (s : State) → IsSound s → (c : ℕ) (m : Mailbox) → c < length s.cores → m ≡ get_or s.mailboxes c m → slice_get s.mailboxes c ≡ Some m
+mailbox_at s p c m within read = read_at s.mailboxes c m (let n = p.settled.cores in let l = p.settled.mailboxes in omega (arith, n, l, within)) read
+
+-- what stands in its place, put back as it was, changes nothing
+pub put_back : (s : State) (c : ℕ) (k k' : Core) (m m' : Mailbox) (b : ℕ) (x x' : Block) → StandsAt s c k m → slice_get s.blocks b ≡ Some x → k' ≡ k → m' ≡ m → x' ≡ x →
+    record s { cores = slice_set s.cores c k'; mailboxes = slice_set s.mailboxes c m'; blocks = slice_set s.blocks b x' } ≡ s
+put_back s c k k' m m' b x x' at there core mailbox block =
+    let cores = ap (slice_set s.cores c) core ∙ set_same s.cores c k at.core in
+    let mailboxes = ap (slice_set s.mailboxes c) mailbox ∙ set_same s.mailboxes c m at.mailbox in
+    let blocks = ap (slice_set s.blocks b) block ∙ set_same s.blocks b x there in
+    ap (λ ks. record s { cores = ks; mailboxes = slice_set s.mailboxes c m'; blocks = slice_set s.blocks b x' }) cores
+    ∙ ap (λ ms. record s { mailboxes = ms; blocks = slice_set s.blocks b x' }) mailboxes
+    ∙ ap (λ bs. record s { blocks = bs }) blocks

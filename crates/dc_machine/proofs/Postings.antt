@@ -1,53 +1,50 @@
--- What a boot command comes to, by its posts.
-use Rattle.std.proofs.Common.{◌≡◌, ℕ, zero, suc, ◌<◌, ◌-◌, [], ◌∷◌, Option, Some, None, true, false, refl, ap, ◌∙◌, arith}
-use Rattle.std.specs.Prelude.{slice_get}
-use Rattle.std.specs.Option.{option_map_or}
+-- The core of a post of a sound machine has a mailbox, and what a mailbox is that is written twice.
+use Rattle.std.proofs.Common.{◌≡◌, ℕ, zero, suc, ◌<◌, ◌-◌, List, [], ◌∷◌, Some, None, refl, ap, ◌∙◌, arith, length}
+use Rattle.std.specs.Prelude.{slice_get, slice_set}
 use Rattle.dc_base.specs.declared.commands.Command.{Command}
 use Rattle.dc_base.specs.declared.commands.Order.{Order}
-use Rattle.dc_base.specs.declared.commands.Refusal.{Refusal}
 use Rattle.dc_base.specs.declared.commands.ScriptLine.TheVariants as line
+use Rattle.dc_base.specs.declared.numbers.CoreNo.{CoreNo}
 use Rattle.dc_base.specs.Boot.{orders, refusal}
-use Rattle.dc_base.specs.Changes.{mailbox_becomes}
-use Rattle.dc_base.specs.Commands.{begin, boot_turn, go_on_from, post_or_done, with_ack}
-use Rattle.dc_base.specs.Progress.{boot_command, command_at}
+use Rattle.dc_base.specs.Changes.{Change, mailbox_becomes}
+use Rattle.dc_base.specs.Progress.{boot_command}
 use Rattle.dc_base.specs.Sound.{IsSound}
-use Rattle.dc_base.specs.States.{State, Mailbox, empty, ack}
-use Rattle.dc_base.specs.States.{order as ordered}
-use Rattle.dc_base.specs.Turns.{outcome}
+use Rattle.dc_base.specs.States.{State, empty, ack}
 use Rattle.dc_base.specs.Words.{bind}
-use Rattle.dc_objects.specs.Mailboxes.{is_ack}
+use Rattle.dc_sound.proofs.EntryKinds.{Before, first_post, next_post, StandsAt}
+use Rattle.dc_sound.proofs.Registered.{posted_fits}
+use Rattle.dc_bodies.specs.declared.posts.Posting.TheVariants as posting
+use Rattle.dc_bodies.specs.Postings.{ComesTo}
+use Rattle.dc_bodies.specs.Scripted.{GoesOn}
 
-module _ (s : State) (c : Command) (h : IsSound s) (e : slice_get s.script.lines s.script.place ≡ Some (line.Boot c)) where
-  command_is : command_at s.script ≡ Some c
-  command_is = ap (λ o. bind o boot_command) e
-
+module _ (s : State) (p : IsSound s) (c : Command) (h : GoesOn s.script (line.Boot c)) where
   -- a begun command has no refusal
   pub accepted : 0 < s.script.posts → refusal s.script.registry c ≡ None
-  accepted k = h.registered.accepted c k command_is
+  accepted k = p.registered.accepted c k (ap (λ o. bind o boot_command) h.line)
 
-  -- a command that is refused was not begun
-  pub not_begun : (r : Refusal) → refusal s.script.registry c ≡ Some r → s.script.posts ≡ 0
-  not_begun r f = by_posts s.script.posts refl
-    where
-      by_posts : (n : ℕ) → s.script.posts ≡ n → n ≡ 0
-      by_posts zero q = refl
-      by_posts (suc n) q = absurd (let a = accepted (omega (arith, q)) in cc)
+  stands : StandsAt s.script (line.Boot c)
+  stands = record { line_at = h.line; raises = h.raises }
 
-module _ (s : State) (c : Command) where
-  pub refused_turn : (r : Refusal) → refusal s.script.registry c ≡ Some r → s.script.posts ≡ 0 → outcome s (boot_turn s.script c s.script.posts) ≡ outcome s (begin s.script c (Some r))
-  refused_turn r e z = ap (λ n. outcome s (boot_turn s.script c n)) z ∙ ap (λ o. outcome s (begin s.script c o)) e
+  core_there : (before : List Change) → Before s c before → (o : ℕ × Order) → slice_get (orders s.script.registry c) s.script.posts ≡ Some o → o.0 < length s.mailboxes
+  core_there before b o e =
+      let core = (posted_fits s p.in_form p.registered p.placed p.settled c before stands b o e).core_is in
+      let n = p.settled.cores in
+      let l = p.settled.mailboxes in
+      omega (arith, core, n, l)
 
-  later_by : (n : ℕ) → 0 < n → outcome s (boot_turn s.script c n) ≡ outcome s (go_on_from s.script c (slice_get (orders s.script.registry c) (n - 1)))
-  later_by zero k = absurd (omega (arith, k))
-  later_by (suc n) k = ap (λ m. outcome s (go_on_from s.script c (slice_get (orders s.script.registry c) m))) (omega arith)
+module _ (s : State) (p : IsSound s) where
+  pub first_there : (core : CoreNo) (o : Order) → ComesTo s.script (posting.First core o) → core.0 < length s.mailboxes
+  first_there core o h =
+      let n = h.1.next in
+      core_there s p h.0 h.1.goes [] (first_post n.0 n.1 refl) (core.0, o) (ap (slice_get (orders s.script.registry h.0)) n.0 ∙ n.2)
 
-  has_acked : (o : ℕ × Order) (m : Option Mailbox) → option_map_or is_ack m false ≡ true →
-      outcome s (with_ack s.script c o.0 m) ≡ outcome s (post_or_done s.script c (mailbox_becomes o.0 empty ∷ []) (slice_get (orders s.script.registry c) s.script.posts))
-  has_acked o None e = absurd cc
-  has_acked o (Some empty) e = absurd cc
-  has_acked o (Some (ordered q)) e = absurd cc
-  has_acked o (Some ack) e = refl
+  pub next_there : (last core : CoreNo) (o : Order) → ComesTo s.script (posting.After last (Some (core, o))) → slice_get s.mailboxes last.0 ≡ Some ack → core.0 < length s.mailboxes
+  next_there last core o h a =
+      let n = h.1.next in
+      core_there s p h.0 h.1.goes (mailbox_becomes last.0 empty ∷ []) (next_post (s.script.posts - 1) (last.0, n.3.0) (let k = n.0 in omega (arith, k)) n.3.1 a refl) (core.0, o) n.4
 
-  pub acked : (o : ℕ × Order) → 0 < s.script.posts → slice_get (orders s.script.registry c) (s.script.posts - 1) ≡ Some o → option_map_or is_ack (slice_get s.mailboxes o.0) false ≡ true →
-      outcome s (boot_turn s.script c s.script.posts) ≡ outcome s (post_or_done s.script c (mailbox_becomes o.0 empty ∷ []) (slice_get (orders s.script.registry c) s.script.posts))
-  acked o k e f = later_by s.script.posts k ∙ ap (λ q. outcome s (go_on_from s.script c q)) e ∙ has_acked o (slice_get s.mailboxes o.0) f
+-- an element that is written twice is the later one
+pub set_twice : {A : Type 0} (xs : List A) (i : ℕ) (x y : A) → slice_set (slice_set xs i x) i y ≡ slice_set xs i y
+set_twice [] i x y = refl
+set_twice (a ∷ xs) zero x y = refl
+set_twice (a ∷ xs) (suc i) x y = ap (λ rest. a ∷ rest) (set_twice xs i x y)

@@ -18,8 +18,9 @@ use Rattle.dc_calls.specs.declared.outsides.Outside.TheVariants as held
 use Rattle.dc_calls.specs.Outsides.{outside_seen, Fits}
 use Rattle.dc_kernel.specs.Turned.{look_in}
 use Rattle.dc_objects.specs.declared.whole.Objects.{Objects}
-use Rattle.dc_machine.specs.Lifts.{AreOutside, IsLifted, LacksLine, LacksLineIf, SameKind}
-use Rattle.dc_machine.specs.Slots.{lifted}
+use Rattle.dc_bodies.specs.OutsideKinds.{SameKind}
+use Rattle.dc_machine.specs.Lifts.{AreOutside, IsLifted, LacksLine, LacksLineIf}
+use Rattle.dc_bodies.specs.Slots.{lifted}
 
 there_is : {A : Type 0} (xs : List A) (i : ℕ) → slice_get xs i ≡ None → nat_lt i (length xs) ≡ true → ⊥
 there_is xs i e h = elim (slice_get_cases xs i).1 [

@@ -5,8 +5,8 @@ use Rattle.std.proofs.lemmas.Option.{slice_get-get_or}
 use Rattle.dc_base.specs.declared.entries.Reason.{Reason}
 use Rattle.dc_base.specs.States.{State}
 use Rattle.dc_base.specs.Turns.{Outcome, not_enabled}
-use Rattle.dc_machine.specs.declared.turns.Stepped.{Stepped}
-use Rattle.dc_machine.specs.declared.turns.Stepped.TheVariants as stepped
+use Rattle.dc_bodies.specs.declared.stops.Stepped.{Stepped}
+use Rattle.dc_bodies.specs.declared.stops.Stepped.TheVariants as stepped
 use Rattle.dc_machine.specs.Answers.{Answers}
 
 pub refuses : (s : State) (why : Reason) (o : Outcome) → o ≡ not_enabled why → Answers (stepped.NotEnabled why) s s o

@@ -1,129 +1,107 @@
--- The blocks of a share, changed one after another.
-use Rattle.std.proofs.Common.{◌≡◌, ℕ, zero, suc, ◌+◌, ◌<◌, ◌≤◌, List, [], ◌∷◌, Bool, true, false, Option, Some, None, refl, sym, ap, ◌∙◌, subst, cond, map, drop, length, get_or, arith}
-use Rattle.std.specs.Prelude.{slice_get, slice_set, ◌==◌, ◌||◌}
-use Rattle.std.specs.Option.{option_map_or}
-use Rattle.std.proofs.lemmas.List.Sums.{sum_by-cons}
-use Rattle.std.proofs.lemmas.List.{length-map}
-use Rattle.std.proofs.lemmas.Option.{slice_get-get_or}
-use Rattle.dc_base.specs.Changes.{block_becomes, apply}
-use Rattle.dc_base.specs.Orders.{change_all}
-use Rattle.dc_base.specs.Outcomes.{has, share_blocks}
-use Rattle.dc_base.specs.Placed.{count_in}
-use Rattle.dc_base.specs.States.{State, Block, Member}
-use Rattle.dc_base.specs.Turns.{looked_at}
-use Rattle.dc_objects.specs.Blocks.{IsTimed}
-use Rattle.dc_block_sound.proofs.Elements.{same_is, set_other}
-use Rattle.dc_machine.specs.Handing.{changed_all}
+-- The blocks in their places after those of a share changed.
+use Rattle.std.proofs.Common.{◌≡◌, ℕ, zero, suc, List, [], ◌∷◌, Bool, true, false, Option, Some, None, refl, sym, ap, ◌∙◌, subst}
+use Rattle.std.specs.Prelude.{slice_get, slice_set, is_some, ◌==◌, ◌||◌}
+use Rattle.std.specs.Option.{option_map, option_map_or}
+use Rattle.dc_base.specs.declared.actions.Action.TheVariants as action
+use Rattle.dc_base.specs.declared.actions.Actor.TheVariants as actor
+use Rattle.dc_base.specs.declared.entries.Entry.{Entry}
+use Rattle.dc_base.specs.declared.numbers.CoreNo.{CoreNo}
+use Rattle.dc_base.specs.Changes.{apply, block_becomes, core_becomes, mailbox_becomes}
+use Rattle.dc_base.specs.Cores.{core_step}
+use Rattle.dc_base.specs.Outcomes.{has}
+use Rattle.dc_base.specs.States.{State, Core, Block, Mailbox, Member}
+use Rattle.dc_block_sound.proofs.Elements.{is_same, not_same, set_other}
+use Rattle.dc_bodies.specs.declared.stops.Stepped.TheVariants as stepped
+use Rattle.dc_bodies.specs.Handing.{AreChanged}
+use Rattle.dc_bodies.specs.Ordered.{become_all, DoesOrder}
+use Rattle.dc_machine.specs.Answers.{Answers}
+use Rattle.dc_machine.proofs.Bodies.{did_answers}
 
--- a share that lists each block once
+-- lists by their elements
 
-pub record ListsOnce (share : List Member) : Type 0 where
-  pub once : (b : ℕ) → count_in share b ≤ 1
+no_some : {A : Type 0} (o : Option A) → is_some o ≡ false → o ≡ None
+no_some None e = refl
+no_some (Some x) e = absurd cc
 
-counts_by : (b : ℕ) (m : Member) (ms : List Member) → (has ms b ≡ true → 0 < count_in ms b) → (t : Bool) → (t || has ms b) ≡ true → 0 < cond t 1 0 + count_in ms b
-counts_by b m ms more true h = omega arith
-counts_by b m ms more false h = let k = more h in omega (arith, k)
+some_set : {A : Type 0} (xs : List A) (i : ℕ) (y : A) (b : ℕ) → is_some (slice_get (slice_set xs i y) b) ≡ is_some (slice_get xs b)
+some_set [] i y b = refl
+some_set (x ∷ xs) zero y zero = refl
+some_set (x ∷ xs) zero y (suc b) = refl
+some_set (x ∷ xs) (suc i) y zero = refl
+some_set (x ∷ xs) (suc i) y (suc b) = some_set xs i y b
 
-counts : (b : ℕ) (share : List Member) → has share b ≡ true → 0 < count_in share b
-counts b [] h = absurd (let bad : false ≡ true = h in cc)
-counts b (m ∷ ms) h = subst (λ n. 0 < n) (sym (sum_by-cons (λ (n : Member). cond (n.block == b) 1 0) m ms)) (counts_by b m ms (λ k. counts b ms k) (m.block == b) h)
+set_some : {A : Type 0} (xs : List A) (i : ℕ) (y : A) → is_some (slice_get xs i) ≡ true → slice_get (slice_set xs i y) i ≡ Some y
+set_some [] i y e = absurd cc
+set_some (x ∷ xs) zero y e = refl
+set_some (x ∷ xs) (suc i) y e = set_some xs i y e
 
-module _ (m : Member) (ms : List Member) (h : ListsOnce (m ∷ ms)) where
-  pub rest_once : ListsOnce ms
-  rest_once = record { once = λ b. (let k = h.once b in let e = sum_by-cons (λ (n : Member). cond (n.block == b) 1 0) m ms in omega (arith, k, e)) }
+same_list : {A : Type 0} (xs ys : List A) → ((b : ℕ) → slice_get xs b ≡ slice_get ys b) → xs ≡ ys
+same_list [] [] h = refl
+same_list [] (y ∷ ys) h = absurd (let z : None ≡ Some y = h 0 in cc)
+same_list (x ∷ xs) [] h = absurd (let z : Some x ≡ None = h 0 in cc)
+same_list (x ∷ xs) (y ∷ ys) h = let first : x ≡ y = (let z : Some x ≡ Some y = h 0 in cc) in ap (λ a. a ∷ xs) first ∙ ap (λ more. y ∷ more) (same_list xs ys (λ b. h (suc b)))
 
-  apart_by : (b : ℕ) (t : Bool) → (m.block == b) ≡ t → t ≡ true → 0 < count_in ms b → cond t 1 0 + count_in ms b ≤ 1 → ⊥
-  apart_by b true g e k l = omega (arith, k, l)
-  apart_by b false g e k l = absurd cc
+-- the blocks of a share put where they belong
 
-  -- the blocks after the first are others
-  pub first_apart : (b : ℕ) → has ms b ≡ true → m.block ≡ b → ⊥
-  first_apart b k same =
-      apart_by b (m.block == b) refl (subst (λ n. (m.block == n) ≡ true) same (same_is m.block)) (counts b ms k)
-      (subst (λ n. n ≤ 1) (sum_by-cons (λ (n : Member). cond (n.block == b) 1 0) m ms) (h.once b))
+abbrev set_one : List Block → ℕ → Option Block → List Block
+set_one xs b o = option_map_or (λ x. slice_set xs b x) o xs
 
-first_has : (m : Member) (ms : List Member) → has (m ∷ ms) m.block ≡ true
-first_has m ms = ap (λ t. t || has ms m.block) (same_is m.block)
+abbrev set_all : (ℕ → Option Block) → List Member → List Block → List Block
+set_all seen [] xs = xs
+set_all seen (m ∷ ms) xs = set_all seen ms (set_one xs m.block (seen m.block))
 
-later_by : (t u : Bool) → u ≡ true → (t || u) ≡ true
-later_by true u h = refl
-later_by false u h = h
+module _ (seen : ℕ → Option Block) where
+  one_applied : (b : ℕ) (ms : List Member) → ((s : State) → apply s (become_all seen ms) ≡ record s { blocks = set_all seen ms s.blocks }) → (s : State) (o : Option Block) →
+      apply s (option_map_or (λ x. block_becomes b x ∷ become_all seen ms) o (become_all seen ms)) ≡ record s { blocks = set_all seen ms (set_one s.blocks b o) }
+  one_applied b ms more s None = more s
+  one_applied b ms more s (Some x) = more (record s { blocks = slice_set s.blocks b x })
 
-later_has : (m : Member) (ms : List Member) (b : ℕ) → has ms b ≡ true → has (m ∷ ms) b ≡ true
-later_has m ms b h = later_by (m.block == b) (has ms b) h
+  all_applied : (share : List Member) (s : State) → apply s (become_all seen share) ≡ record s { blocks = set_all seen share s.blocks }
+  all_applied [] s = refl
+  all_applied (m ∷ ms) s = one_applied m.block ms (all_applied ms) s (seen m.block)
 
--- the blocks that are left to be changed
+module _ (new : List Block) where
+  abbrev Alike : List Block → Type 0
+  Alike xs = (b : ℕ) → is_some (slice_get xs b) ≡ is_some (slice_get new b)
 
--- those of `left` are left of the share, and were not changed
-pub record Leaves (f : Block → Block) (clock : ℕ) (share left : List Member) (first now : List Block) : Type 0 where
-  pub whole : changed_all f left now ≡ changed_all f share first
-  pub each_once : ListsOnce left
-  pub timed : (b : ℕ) → has left b ≡ true → (x : Block) × (slice_get now b ≡ Some x) × IsTimed clock x
+  abbrev Others : List Member → List Block → Type 0
+  Others share xs = (b : ℕ) → has share b ≡ false → slice_get xs b ≡ slice_get new b
 
-module _ (f : Block → Block) (clock : ℕ) (share : List Member) (m : Member) (ms : List Member) (first now : List Block) (l : Leaves f clock share (m ∷ ms) first now) where
-  pub next_timed : (x : Block) × (slice_get now m.block ≡ Some x) × IsTimed clock x
-  next_timed = l.timed m.block (first_has m ms)
+  module _ (m : Member) (ms : List Member) (xs : List Block) (alike : Alike xs) (h : Others (m ∷ ms) xs) where
+    put_by : (x : Block) → slice_get new m.block ≡ Some x → (b : ℕ) → has ms b ≡ false → (t : Bool) → (m.block == b) ≡ t → slice_get (slice_set xs m.block x) b ≡ slice_get new b
+    put_by x e b k true q = subst (λ n. slice_get (slice_set xs m.block x) n ≡ slice_get new n) (is_same m.block b q) (set_some xs m.block x (alike m.block ∙ ap is_some e) ∙ sym e)
+    put_by x e b k false q = set_other xs m.block b x (not_same m.block b q) ∙ h b (ap (λ t. t || has ms b) q ∙ k)
 
-  pub one_changed : (x : Block) → slice_get now m.block ≡ Some x → Leaves f clock share ms first (slice_set now m.block (f x))
-  one_changed x e = record {
-    whole = ap (λ o. changed_all f ms (option_map_or (λ y. slice_set now m.block (f y)) o now)) (sym e) ∙ l.whole;
-    each_once = rest_once m ms l.each_once;
-    timed = λ b h. (let w = l.timed b (later_has m ms b h) in (w.0, set_other now m.block b (f x) (first_apart m ms l.each_once b h) ∙ w.1, w.2));
-  }
+    past_by : slice_get new m.block ≡ None → (b : ℕ) → has ms b ≡ false → (t : Bool) → (m.block == b) ≡ t → slice_get xs b ≡ slice_get new b
+    past_by e b k true q = let n : slice_get new b ≡ None = subst (λ n. slice_get new n ≡ None) (is_same m.block b q) e in no_some (slice_get xs b) (alike b ∙ ap is_some n) ∙ sym n
+    past_by e b k false q = h b (ap (λ t. t || has ms b) q ∙ k)
 
--- what stands at a place of a list that is the share
-pub block_at : (list share : List Member) (i : ℕ) (o : Option ℕ) → list ≡ share → o ≡ slice_get (share_blocks list) i → slice_get (share_blocks share) i ≡ o
-block_at list share i o same e = sym (e ∙ ap (λ l. slice_get (share_blocks l) i) same)
+    one_set : ((ys : List Block) → Alike ys → Others ms ys → set_all (slice_get new) ms ys ≡ new) → (o : Option Block) → slice_get new m.block ≡ o → set_all (slice_get new) ms (set_one xs m.block o) ≡ new
+    one_set more None e = more xs alike (λ b k. past_by e b k (m.block == b) refl)
+    one_set more (Some x) e = more (slice_set xs m.block x) (λ b. some_set xs m.block x b ∙ alike b) (λ b k. put_by x e b k (m.block == b) refl)
 
--- a place within the share has a block
-pub none_at : (share : List Member) (i : ℕ) → i < length share → slice_get (share_blocks share) i ≡ None → ⊥
-none_at share i h e = (let z : None ≡ Some (get_or (share_blocks share) i 0) = sym e ∙ slice_get-get_or (share_blocks share) i 0 (let n : length (share_blocks share) ≡ length share = length-map share (λ (m : Member). m.block) in omega (arith, n, h)) in cc)
+  all_set : (share : List Member) (xs : List Block) → Alike xs → Others share xs → set_all (slice_get new) share xs ≡ new
+  all_set [] xs alike h = same_list xs new (λ b. h b refl)
+  all_set (m ∷ ms) xs alike h = one_set m ms xs alike h (all_set ms) (slice_get new m.block) refl
 
--- the member at a place is the first of those from there on
-pub member_at : (share : List Member) (i b : ℕ) → slice_get (share_blocks share) i ≡ Some b → (m : Member) × (m.block ≡ b) × (drop i share ≡ m ∷ drop (i + 1) share)
-member_at [] i b h = absurd cc
-member_at (m ∷ ms) zero b h = (m, (let same : m.block ≡ b = cc in same), refl)
-member_at (m ∷ ms) (suc i) b h = let w = member_at ms i b h in let same : suc (i + 1) ≡ suc i + 1 = omega arith in (w.0, w.1, w.2 ∙ ap (λ n. w.0 ∷ drop n (m ∷ ms)) same)
+module _ (f : Block → Block) (share : List Member) (old new : List Block) (c : AreChanged f share (slice_get old) (slice_get new)) where
+  mapped : (o : Option Block) → is_some (option_map f o) ≡ is_some o
+  mapped None = refl
+  mapped (Some x) = refl
 
--- a turn of the loop over a share
-module _ (f : Block → Block) (clock : ℕ) (share : List Member) (i b : ℕ) (first now : List Block) (here : slice_get (share_blocks share) i ≡ Some b) (l : Leaves f clock share (drop i share) first now) where
-  pub block_timed : (x : Block) × (slice_get now b ≡ Some x) × IsTimed clock x
-  block_timed =
-      let w = member_at share i b here in
-      subst (λ n. (x : Block) × (slice_get now n ≡ Some x) × IsTimed clock x) w.1
-      (next_timed f clock share w.0 (drop (i + 1) share) first now (subst (λ left. Leaves f clock share left first now) w.2 l))
+  alike_by : (b : ℕ) (t : Bool) → has share b ≡ t → is_some (slice_get old b) ≡ is_some (slice_get new b)
+  alike_by b true h = sym (ap is_some (c.here b h) ∙ mapped (slice_get old b))
+  alike_by b false h = sym (ap is_some (c.others b h))
 
-  pub turn_made : (after : List Block) → ((x : Block) → slice_get now b ≡ Some x → after ≡ slice_set now b (f x)) → Leaves f clock share (drop (i + 1) share) first after
-  turn_made after made =
-      let w = member_at share i b here in
-      let t = block_timed in
-      let more = one_changed f clock share w.0 (drop (i + 1) share) first now (subst (λ left. Leaves f clock share left first now) w.2 l) t.0 (ap (slice_get now) w.1 ∙ t.1) in
-      subst (λ bs. Leaves f clock share (drop (i + 1) share) first bs) (ap (λ n. slice_set now n (f t.0)) w.1 ∙ sym (made t.0 t.1)) more
+  all_new : set_all (slice_get new) share old ≡ new
+  all_new = all_set new share old (λ b. alike_by b (has share b) refl) (λ b h. sym (c.others b h))
 
--- a state after the blocks of a share changed
-
-module _ (f : Block → Block) (blocks : List Block) where
-  abbrev Agrees : List Member → State → Type 0
-  Agrees share s = (b : ℕ) → has share b ≡ true → slice_get s.blocks b ≡ slice_get blocks b
-
-  abbrev after : List Member → State → State
-  after share s = apply s (change_all f (map (looked_at blocks) (share_blocks share)))
-
-  agrees_set : (m : Member) (ms : List Member) (s : State) (x : Block) → ListsOnce (m ∷ ms) → Agrees (m ∷ ms) s → Agrees ms (record s { blocks = slice_set s.blocks m.block (f x) })
-  agrees_set m ms s x o a b h = set_other s.blocks m.block b (f x) (first_apart m ms o b h) ∙ a b (later_has m ms b h)
-
-  applied_by : (m : Member) (ms : List Member) (s : State) → ListsOnce (m ∷ ms) → Agrees (m ∷ ms) s → ((u : State) → Agrees ms u → after ms u ≡ record u { blocks = changed_all f ms u.blocks }) → (o : Option Block) →
-      apply s (option_map_or (λ x. block_becomes m.block (f x) ∷ change_all f (map (looked_at blocks) (share_blocks ms))) o (change_all f (map (looked_at blocks) (share_blocks ms))))
-      ≡ record s { blocks = changed_all f ms (option_map_or (λ x. slice_set s.blocks m.block (f x)) o s.blocks) }
-  applied_by m ms s o a more None = more s (λ b h. a b (later_has m ms b h))
-  applied_by m ms s o a more (Some x) = more (record s { blocks = slice_set s.blocks m.block (f x) }) (agrees_set m ms s x o a)
-
-  -- each block that changes is as it was, since it is listed once
-  all_applied : (share : List Member) (s : State) → ListsOnce share → Agrees share s → after share s ≡ record s { blocks = changed_all f share s.blocks }
-  all_applied [] s o a = refl
-  all_applied (m ∷ ms) s o a =
-      applied_by m ms s o a (λ u b. all_applied ms u (rest_once m ms o) b) (slice_get blocks m.block)
-      ∙ ap (λ p. record s { blocks = changed_all f ms (option_map_or (λ x. slice_set s.blocks m.block (f x)) p s.blocks) }) (sym (a m.block (first_has m ms)))
-
-pub share_applied : (f : Block → Block) (share : List Member) (s : State) → ListsOnce share → apply s (change_all f (map (looked_at s.blocks) (share_blocks share))) ≡ record s { blocks = changed_all f share s.blocks }
-share_applied f share s o = all_applied f s.blocks share s o (λ b h. refl)
+-- what an order answers that changes the blocks of a share
+pub share_answers : (s : State) (c : CoreNo) (k : Core) (m : Mailbox) (f : Block → Block) (share : List Member) (new : List Block) (e : Entry) → AreChanged f share (slice_get s.blocks) (slice_get new) →
+    DoesOrder s c.0 (core_becomes c.0 k ∷ mailbox_becomes c.0 m ∷ become_all (slice_get new) share) e →
+    Answers (stepped.Did e) s (record s { cores = slice_set s.cores c.0 k; mailboxes = slice_set s.mailboxes c.0 m; blocks = new }) (core_step s 0 (actor.Core c) action.Order)
+share_answers s c k m f share new e changed does =
+    let t : State = record s { cores = slice_set s.cores c.0 k; mailboxes = slice_set s.mailboxes c.0 m } in
+    let after : apply t (become_all (slice_get new) share) ≡ record t { blocks = new } = all_applied (slice_get new) share t ∙ ap (λ bs. record t { blocks = bs }) (all_new f share s.blocks new changed) in
+    subst (λ u. Answers (stepped.Did e) s u (core_step s 0 (actor.Core c) action.Order)) after
+    (did_answers s (actor.Core c) action.Order (core_becomes c.0 k ∷ mailbox_becomes c.0 m ∷ become_all (slice_get new) share) e does 0)

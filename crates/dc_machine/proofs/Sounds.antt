@@ -11,9 +11,9 @@ use Rattle.dc_base.specs.Placed.{IsOn}
 use Rattle.dc_base.specs.Sound.{IsSound}
 use Rattle.dc_base.specs.States.{State, Core, Block, Whereabouts, rest, on}
 use Rattle.dc_objects.specs.Blocks.{IsHeld, IsHeldAt}
-use Rattle.dc_machine.specs.declared.wakes.ChannelWait.{ChannelWait}
-use Rattle.dc_machine.specs.declared.wakes.ChannelWait.TheVariants as channel
-use Rattle.dc_machine.specs.Waits.{channel_wait, channel_of}
+use Rattle.dc_bodies.specs.declared.wakes.ChannelWait.{ChannelWait}
+use Rattle.dc_bodies.specs.declared.wakes.ChannelWait.TheVariants as channel
+use Rattle.dc_bodies.specs.Waits.{channel_wait, channel_of}
 
 held_at : (c : ℕ) (w : Whereabouts) → IsOn c w → IsHeldAt w
 held_at c (rest kept) h = absurd h

@@ -10,10 +10,10 @@ use Rattle.dc_base.specs.States.{State, Core}
 use Rattle.dc_base.specs.Turns.{Turn, ends, spent, outcome}
 use Rattle.dc_base.specs.Outcomes.{if_on}
 use Rattle.dc_base.specs.Cores.{core_step, core_action, core_turn, turn_of}
-use Rattle.dc_machine.specs.declared.turns.Stepped.{Stepped}
-use Rattle.dc_machine.specs.declared.turns.Stepped.TheVariants as stepped
+use Rattle.dc_bodies.specs.declared.stops.Stepped.{Stepped}
+use Rattle.dc_bodies.specs.declared.stops.Stepped.TheVariants as stepped
 use Rattle.dc_machine.specs.Answers.{Answers}
-use Rattle.dc_machine.specs.Nexts.{stopped, stopped_at}
+use Rattle.dc_bodies.specs.Stops.{stopped, stopped_at}
 
 -- the step of a core that there is
 pub core_acts : (s : State) (c : CoreNo) (a : Action) (k : Core) → slice_get s.cores c.0 ≡ Some k → core_step s 0 (actor.Core c) a ≡ outcome s (core_action c.0 k a)
@@ -22,10 +22,6 @@ core_acts s c a k e = ap (λ o. outcome s (core_turn c.0 a o)) e
 
 pub core_answers : (s new : State) (c : CoreNo) (a : Action) (k : Core) (r : Stepped) → slice_get s.cores c.0 ≡ Some k → Answers r s new (outcome s (core_action c.0 k a)) → Answers r s new (core_step s 0 (actor.Core c) a)
 core_answers s new c a k r e h = subst (λ o. Answers r s new o) (sym (core_acts s c a k e)) h
-
--- what a core does whose budget is tested first
-abbrev pub tested : Core → Turn → Turn
-tested k t = if k.used == k.settings.slices then ends spent else if_on k.version t
 
 stops_by : (s : State) (u : Bool) (v : Option Version) (t : Turn) (r : Stepped) → (if u then Some stepped.Spent else stopped_at v) ≡ Some r → Answers r s s (outcome s (if u then ends spent else if_on v t))
 stops_by s true v t r e = subst (λ q. Answers q s s spent) (inner stepped.Spent r e) (refl, refl)
@@ -38,16 +34,8 @@ stops_by s false None t r e = subst (λ q. Answers q s s (outcome s (if_on None 
     inner p q e = cc
 stops_by s false (Some v) t r e = absurd cc
 
-pub stops : (s : State) (k : Core) (t : Turn) (r : Stepped) → stopped k ≡ Some r → Answers r s s (outcome s (tested k t))
+pub stops : (s : State) (k : Core) (t : Turn) (r : Stepped) → stopped k ≡ Some r → Answers r s s (outcome s (if k.used == k.settings.slices then ends spent else if_on k.version t))
 stops s k t r e = stops_by s (k.used == k.settings.slices) k.version t r e
-
-goes_by : (s : State) (u : Bool) (v : Option Version) (t : Turn) → (if u then Some stepped.Spent else stopped_at v) ≡ None → outcome s (if u then ends spent else if_on v t) ≡ outcome s t
-goes_by s true v t e = absurd cc
-goes_by s false None t e = absurd cc
-goes_by s false (Some v) t e = refl
-
-pub goes : (s : State) (k : Core) (t : Turn) → stopped k ≡ None → outcome s (tested k t) ≡ outcome s t
-goes s k t e = goes_by s (k.used == k.settings.slices) k.version t e
 
 left_by : (u : Bool) (v : Option Version) → (if u then Some stepped.Spent else stopped_at v) ≡ None → u ≡ false
 left_by true v e = absurd cc

@@ -1,13 +1,13 @@
 -- What a step of the machine answers.
 use Rattle.std.specs.Prelude.{◌≡◌, ℕ, Bool, true, false, ⊤}
-use Rattle.dc_base.specs.declared.entries.Reason.TheVariants as reason
 use Rattle.dc_base.specs.declared.actions.Action.{Action}
 use Rattle.dc_base.specs.States.{State}
 use Rattle.dc_base.specs.Changes.{apply}
 use Rattle.dc_base.specs.CoreRuns.{polls_after, polls_at}
 use Rattle.dc_base.specs.Turns.{Outcome, did, not_enabled, spent}
-use Rattle.dc_machine.specs.declared.turns.Stepped.{Stepped}
-use Rattle.dc_machine.specs.declared.turns.Stepped.TheVariants as stepped
+use Rattle.dc_bodies.specs.declared.stops.Stepped.{Stepped}
+use Rattle.dc_bodies.specs.declared.stops.Stepped.TheVariants as stepped
+use Rattle.dc_bodies.specs.Scripted.{IsNoPoll}
 
 -- the answer is that of the outcome, and the new state is what the outcome makes of the old one
 abbrev pub Answers : Stepped → State → State → Outcome → Type 0
@@ -23,7 +23,7 @@ polls_then a polls spent = polls
 
 -- the answer is not that a console has too few words
 abbrev pub IsQuiet : Stepped → Type 0
-IsQuiet (stepped.NotEnabled (reason.Few seen polls)) = ⊥
+IsQuiet (stepped.NotEnabled why) = IsNoPoll why
 IsQuiet r = ⊤
 
 abbrev pub is_did : Stepped → Bool

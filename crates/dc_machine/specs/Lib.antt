@@ -1,10 +1,3 @@
 pub mod Answers
-pub mod Handing
-pub mod Held
-pub mod InHand
+pub mod Begun
 pub mod Lifts
-pub mod Nexts
-pub mod Pendings
-pub mod Raised
-pub mod Slots
-pub mod Waits

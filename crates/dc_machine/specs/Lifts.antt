@@ -2,10 +2,9 @@
 use Rattle.std.specs.Prelude.{◌≡◌, ◌<◌, ℕ, nat_lt, Bool, true, false, length, vec_capacity, ⊤}
 use Rattle.dc_base.specs.declared.calls.Need.{Need}
 use Rattle.dc_base.specs.declared.calls.Need.TheVariants as needs
-use Rattle.dc_base.specs.Serving.{Outside, nothing_outside, console_outside, channel_outside, line_outside}
 use Rattle.dc_base.specs.States.{State}
 use Rattle.dc_objects.specs.declared.whole.Objects.{Objects}
-use Rattle.dc_machine.specs.Slots.{lifted}
+use Rattle.dc_bodies.specs.Slots.{lifted}
 
 -- the object that a call of block b needs is there; a line need not be
 abbrev pub HasNeeded : State → ℕ → Need → Type 0
@@ -51,14 +50,6 @@ IsLifted s o b needs.Nothing = AreOutside s o
 IsLifted s o b needs.Console = LacksConsole s o b
 IsLifted s o b (needs.Channel x) = LacksChannel s o x.0
 IsLifted s o b (needs.Line l) = LacksLineIf (nat_lt l.0 (length s.lines)) s o l.0
-
--- an object of the same kind
-abbrev pub SameKind : Outside → Outside → Type 0
-SameKind nothing_outside nothing_outside = ⊤
-SameKind (console_outside ws) (console_outside vs) = ⊤
-SameKind (channel_outside r) (channel_outside q) = ⊤
-SameKind (line_outside w) (line_outside v) = ⊤
-SameKind out out' = ⊥
 
 -- cores, blocks, mailboxes and the script stand as before
 pub record KeepsRest {D : Type 0} (before after : Objects D) : Type 0 where

@@ -7,11 +7,12 @@ ghost use Rattle.dc_base.specs.NeededLooks.{outside_change};
 ghost use Rattle.dc_calls.specs.Outsides.{Fits, outside_seen};
 ghost use Rattle.dc_kernel.specs.Turned.{look_in};
 ghost use Rattle.dc_objects.specs.States.{state_of};
-ghost use Rattle.dc_machine.specs.Lifts.{AreOutside, HasNeeded, IsLifted, KeepsRest, SameKind};
+ghost use Rattle.dc_bodies.specs.OutsideKinds.{SameKind};
+ghost use Rattle.dc_machine.specs.Lifts.{AreOutside, HasNeeded, IsLifted, KeepsRest};
 
-use crate::slots::{lift, put_down};
 use dc_base::calls::Need;
 use dc_base::numbers::BlockNo;
+use dc_bodies::{lift, put_down};
 use dc_calls::Outside;
 use dc_kernel::Driver;
 use dc_objects::Objects;

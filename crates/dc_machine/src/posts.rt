@@ -1,126 +1,130 @@
 //! A boot command goes on: it is refused, or its orders are posted one after another.
 
-ghost use Rattle.std.specs.Prelude.{◌≡◌, ◌<◌, [], false, Some, None, slice_get, slice_set};
-ghost use Rattle.std.specs.Option.{option_map, option_map_or};
-ghost use Rattle.dc_objects.specs.Mailboxes.{is_ack};
+ghost use Rattle.std.specs.Prelude.{◌≡◌, ℕ, None, Some, slice_get};
+ghost use Rattle.dc_base.specs.declared.actions.Actor.TheVariants as actor;
+ghost use Rattle.dc_base.specs.declared.actions.Action.TheVariants as action;
 ghost use Rattle.dc_base.specs.declared.commands.ScriptLine.TheVariants as line;
-ghost use Rattle.dc_base.specs.Boot.{orders, refusal};
-ghost use Rattle.dc_base.specs.Commands.{begin, boot_turn, post, post_or_done};
-ghost use Rattle.dc_base.specs.declared.commands.Command.{Command as Boot};
+ghost use Rattle.dc_base.specs.Cores.{core_step};
 ghost use Rattle.dc_base.specs.Sound.{IsSound};
-ghost use Rattle.dc_base.specs.Turns.{outcome};
-ghost use Rattle.dc_boot.specs.Registries.{plan_orders, posted};
+ghost use Rattle.dc_base.specs.States.{ack};
+ghost use Rattle.dc_bodies.specs.declared.posts.Posting.TheVariants as posting;
+ghost use Rattle.dc_bodies.specs.Postings.{ComesTo, IsPosting};
+ghost use Rattle.dc_bodies.specs.Scripted.{GoesOn};
 ghost use Rattle.dc_objects.specs.States.{state_of};
 ghost use Rattle.dc_machine.specs.Answers.{Answers, IsQuiet};
 
-use crate::commands::by_script;
-use crate::turns::Stepped;
-use dc_base::commands::{Command, Order, Refusal};
-use dc_base::entries::{Reason, What};
+use dc_base::commands::{Command, Order};
+use dc_base::entries::Reason;
 use dc_base::numbers::CoreNo;
-use dc_boot::Plan;
+use dc_bodies::{
+    Posting, Stepped, await_ack, done_held, next_posting, post_held, post_next_held,
+    post_same_held, refuse_held,
+};
 use dc_kernel::Driver;
-use dc_objects::{Mailbox, Objects};
+use dc_objects::Objects;
 
-/// The order of a plan at this place, if there is one.
-pub(crate) fn order_at(plan: &Plan, i: u32) -> Option<(CoreNo, Order)>
-    ensures { option_map posted result ≡ slice_get (plan_orders plan.now) i }
-{
-    match i {
-        0 => Some(plan.first),
-        1 => plan.second,
-        _ => None,
-    }
-}
-
-/// The command is refused.
-fn refuse<D: Driver>(objects: &mut Objects<D>, refusal: Refusal) -> Stepped
-    ensures step { (c : Boot) → Answers result (state_of objects.old) (state_of objects.new) (outcome (state_of objects.old) (begin objects.old.script c (Some refusal))) }
-    ensures quiet { IsQuiet result }
-{
-    let place = objects.script.place();
-    objects.script.go_on();
-    by_script(What::Refused { place, refusal })
-}
-
-/// Puts a letter into the mailbox of a core, if there is one.
-fn deliver(mailboxes: &mut Vec<Mailbox>, core: CoreNo, letter: Mailbox)
-    ensures { mailboxes.new.items ≡ slice_set mailboxes.old.items core.0 letter }
-{
-    if let Some(mailbox) = mailboxes.get_mut(core.0 as usize) {
-        *mailbox = letter;
-    }
-}
-
-/// Whether a core has carried its last order out.
-fn has_acked(mailboxes: &[Mailbox], core: CoreNo) -> bool
-    ensures { result ≡ option_map_or is_ack (slice_get mailboxes.now core.0) false }
-{
-    match mailboxes.get(core.0 as usize) {
-        Some(mailbox) => mailbox.is_ack(),
-        None => false,
-    }
-}
-
-/// An order is posted to a core.
-fn post<D: Driver>(objects: &mut Objects<D>, core: CoreNo, order: Order) -> Stepped
-    requires { objects.old.script.posts < 2 }
-    ensures step { Answers result (state_of objects.old) (state_of objects.new) (outcome (state_of objects.old) (post objects.old.script [] (core.0, order))) }
-    ensures quiet { IsQuiet result }
-{
-    let place = objects.script.place();
-    deliver(&mut objects.mailboxes, core, Mailbox::holding(order));
-    objects.script.posted();
-    by_script(What::Post { place, core, order })
-}
-
-/// The next order of the command is posted, or the command is done, once its last order was carried out.
-fn go_on<D: Driver>(objects: &mut Objects<D>, command: &Command, plan: &Plan) -> Stepped
+/// The first order of the command is posted.
+fn post_first<D: Driver>(objects: &mut Objects<D>, core: CoreNo, order: Order) -> Stepped
     requires sound { IsSound (state_of objects.old) }
-    requires command { slice_get objects.old.script.lines objects.old.script.place ≡ Some (line.Boot command.now) }
-    requires plan { plan_orders plan.now ≡ orders objects.old.script.registry command.now }
-    requires begun { 0 < objects.old.script.posts }
-    ensures step { Answers result (state_of objects.old) (state_of objects.new) (outcome (state_of objects.old) (boot_turn objects.old.script command.now objects.old.script.posts)) }
+    requires first { ComesTo objects.old.script (posting.First core order) }
+    ensures step { (polls : ℕ) → Answers result (state_of objects.old) (state_of objects.new)
+        (core_step (state_of objects.old) polls actor.Script action.Script) }
     ensures quiet { IsQuiet result }
 {
-    let posts = objects.script.posts();
-    let Some((last, _)) = order_at(plan, posts - 1) else {
-        return Stepped::NotEnabled(Reason::ScriptEnded);
-    };
-    if !has_acked(objects.mailboxes.as_slice(), last) {
-        return Stepped::NotEnabled(Reason::NoAck { core: last });
-    }
-    deliver(&mut objects.mailboxes, last, Mailbox::empty());
-    match order_at(plan, posts) {
-        Some((core, order)) => post(objects, core, order),
-        None => done(objects, command),
-    }
+    let mailbox = &mut objects.mailboxes[core.0 as usize];
+    Stepped::Did(post_held(&mut objects.script, mailbox, core, order))
 }
 
-/// Every order of the command was carried out.
-fn done<D: Driver>(objects: &mut Objects<D>, command: &Command) -> Stepped
-    requires { refusal objects.old.script.registry command.now ≡ None }
-    ensures step { Answers result (state_of objects.old) (state_of objects.new) (outcome (state_of objects.old) (post_or_done objects.old.script command.now [] None)) }
+/// The next order of the command is posted to the core of the last one, which carried it out.
+fn post_same<D: Driver>(objects: &mut Objects<D>, core: CoreNo, order: Order) -> Stepped
+    requires next { ComesTo objects.old.script (posting.After core (Some (core, order))) }
+    requires acked { slice_get objects.old.mailboxes.items core.0 ≡ Some ack }
+    ensures step { (polls : ℕ) → Answers result (state_of objects.old) (state_of objects.new)
+        (core_step (state_of objects.old) polls actor.Script action.Script) }
     ensures quiet { IsQuiet result }
 {
-    let place = objects.script.place();
-    objects.script.finish(command);
-    by_script(What::Done { place })
+    let mailbox = &mut objects.mailboxes[core.0 as usize];
+    Stepped::Did(post_same_held(&mut objects.script, mailbox, core, order))
+}
+
+/// The next order of the command is posted, once core `last` has carried the last one out.
+fn post_next<D: Driver>(
+    objects: &mut Objects<D>,
+    last: CoreNo,
+    core: CoreNo,
+    order: Order,
+) -> Stepped
+    requires sound { IsSound (state_of objects.old) }
+    requires next { ComesTo objects.old.script (posting.After last (Some (core, order))) }
+    requires acked { slice_get objects.old.mailboxes.items last.0 ≡ Some ack }
+    ensures step { (polls : ℕ) → Answers result (state_of objects.old) (state_of objects.new)
+        (core_step (state_of objects.old) polls actor.Script action.Script) }
+    ensures quiet { IsQuiet result }
+{
+    if core == last {
+        return post_same(objects, core, order);
+    }
+    let mut emptied = objects.mailboxes[last.0 as usize];
+    let mut mailbox = objects.mailboxes[core.0 as usize];
+    let script = &mut objects.script;
+    let entry = post_next_held(script, &mut emptied, &mut mailbox, last, core, order);
+    objects.mailboxes[last.0 as usize] = emptied;
+    objects.mailboxes[core.0 as usize] = mailbox;
+    Stepped::Did(entry)
+}
+
+/// The command is done, once core `last` has carried its last order out.
+fn done<D: Driver>(objects: &mut Objects<D>, command: &Command, last: CoreNo) -> Stepped
+    requires next { IsPosting objects.old.script command.now (posting.After last None) }
+    requires acked { slice_get objects.old.mailboxes.items last.0 ≡ Some ack }
+    ensures step { (polls : ℕ) → Answers result (state_of objects.old) (state_of objects.new)
+        (core_step (state_of objects.old) polls actor.Script action.Script) }
+    ensures quiet { IsQuiet result }
+{
+    let emptied = &mut objects.mailboxes[last.0 as usize];
+    Stepped::Did(done_held(&mut objects.script, emptied, command, last))
+}
+
+/// The command goes on after its last post, which was made to core `last`.
+fn go_on<D: Driver>(
+    objects: &mut Objects<D>,
+    command: &Command,
+    last: CoreNo,
+    next: Option<(CoreNo, Order)>,
+) -> Stepped
+    requires sound { IsSound (state_of objects.old) }
+    requires next { IsPosting objects.old.script command.now (posting.After last next) }
+    ensures step { (polls : ℕ) → Answers result (state_of objects.old) (state_of objects.new)
+        (core_step (state_of objects.old) polls actor.Script action.Script) }
+    ensures quiet { IsQuiet result }
+{
+    let Some(mailbox) = objects.mailboxes.get(last.0 as usize) else {
+        return Stepped::NotEnabled(Reason::NoAck { core: last });
+    };
+    if let Err(why) = await_ack(mailbox, last) {
+        return Stepped::NotEnabled(why);
+    }
+    match next {
+        Some((core, order)) => post_next(objects, last, core, order),
+        None => done(objects, command, last),
+    }
 }
 
 /// The boot command at the script's place begins, or goes on after its last order was carried out.
 pub(crate) fn boot_turn<D: Driver>(objects: &mut Objects<D>, command: &Command) -> Stepped
     requires sound { IsSound (state_of objects.old) }
-    requires command { slice_get objects.old.script.lines objects.old.script.place ≡ Some (line.Boot command.now) }
-    ensures step { Answers result (state_of objects.old) (state_of objects.new) (outcome (state_of objects.old) (boot_turn objects.old.script command.now objects.old.script.posts)) }
+    requires goes { GoesOn objects.old.script (line.Boot command.now) }
+    ensures step { (polls : ℕ) → Answers result (state_of objects.old) (state_of objects.new)
+        (core_step (state_of objects.old) polls actor.Script action.Script) }
     ensures quiet { IsQuiet result }
 {
-    let plan = match objects.script.registry().decide(command) {
-        Ok(plan) => plan,
-        Err(refusal) => return refuse(objects, refusal),
+    let posting = match next_posting(&objects.script, command) {
+        Ok(posting) => posting,
+        Err(why) => return Stepped::NotEnabled(why),
     };
-    if objects.script.posts() > 0 {
-        return go_on(objects, command, &plan);
+    match posting {
+        Posting::Refused(refusal) => Stepped::Did(refuse_held(&mut objects.script, refusal)),
+        Posting::First(core, order) => post_first(objects, core, order),
+        Posting::After { last, next } => go_on(objects, command, last, next),
     }
-    post(objects, plan.first.0, plan.first.1)
 }

@@ -16,20 +16,14 @@ use crate::raises::raise_turn;
 use crate::steps::step_turn;
 use crate::wakes::wake_turn;
 use dc_base::actions::{Action, Actor};
-use dc_base::entries::{Entry, Reason};
+use dc_base::entries::Reason;
 use dc_base::numbers::CoreNo;
+use dc_bodies::Stepped;
 use dc_kernel::Driver;
 use dc_objects::Objects;
 
-/// What an action came to: its entry, or why there is none.
-#[derive(Clone, Copy, Debug, PartialEq, Eq)]
-pub enum Stepped {
-    Did(Entry),
-    NotEnabled(Reason),
-    Spent,
-}
-
 /// An action of a core.
+#[inline(always)]
 fn core_turn<D: Driver>(objects: &mut Objects<D>, c: CoreNo, action: &Action) -> Stepped
     requires sound { IsSound (state_of objects.old) }
     requires action { IsActionOf (state_of objects.old).script.settings (actor.Core c) action.now }
@@ -68,6 +62,7 @@ fn script_action<D: Driver>(objects: &mut Objects<D>, polls: &mut u32, action: &
 /// An action of an actor of the machine, from a sound state. `polls` is the number of polls made of the command at which the script stands, at most
 /// 1,000,000,000. The machine serves both versions of the kernel.
 #[tactic(auto, using(crate::proofs::ActionTurns::core_alike, crate::proofs::ActionTurns::core_leaves))]
+#[inline(always)]
 pub fn step<D: Driver>(
     objects: &mut Objects<D>,
     polls: &mut u32,

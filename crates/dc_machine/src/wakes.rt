@@ -1,106 +1,31 @@
 //! Wake: a dispatcher that waits on a channel goes on.
 
-ghost use Rattle.std.specs.Prelude.{◌≡◌, ◌<◌, [], ◌∷◌, Some, IsSome, length, slice_get};
+ghost use Rattle.std.specs.Prelude.{◌≡◌, ◌<◌, Some, IsSome, length, slice_get};
 ghost use Rattle.dc_base.specs.declared.actions.Actor.TheVariants as actor;
 ghost use Rattle.dc_base.specs.declared.actions.Action.TheVariants as action;
-ghost use Rattle.dc_base.specs.Changes.{block_becomes, core_becomes};
+ghost use Rattle.dc_base.specs.Channels.{Ring};
 ghost use Rattle.dc_base.specs.Cores.{core_step};
-ghost use Rattle.dc_base.specs.KeptByBlocks.{HasShape};
 ghost use Rattle.dc_base.specs.Sound.{IsSound};
 ghost use Rattle.dc_base.specs.States.{Block, Core};
-ghost use Rattle.dc_base.specs.Turns.{did};
-ghost use Rattle.dc_base.specs.Wakes.{after_wake};
+ghost use Rattle.dc_bodies.specs.declared.wakes.ChannelWait.{ChannelWait as Wait};
+ghost use Rattle.dc_bodies.specs.Waits.{channel_wait};
+ghost use Rattle.dc_bodies.specs.Woken.{CanWake, StandToWake};
 ghost use Rattle.dc_objects.specs.Blocks.{IsHeld};
 ghost use Rattle.dc_objects.specs.States.{state_of};
 ghost use Rattle.dc_machine.specs.Answers.{Answers, IsQuiet};
-ghost use Rattle.dc_machine.specs.Waits.{channel_of, channel_wait, goes_on};
 
-use crate::steps::stopped;
-use crate::turns::Stepped;
-use dc_base::actions::Actor;
-use dc_base::entries::{Entry, Reason, What};
-use dc_base::numbers::{BlockNo, ChanNo, CoreNo, DispNo};
-use dc_channel::Channel;
-use dc_isa::{DispState, Wait};
+use dc_base::entries::Reason;
+use dc_base::numbers::{BlockNo, CoreNo, DispNo};
+use dc_bodies::{Stepped, channel_of, channel_wait, goes_on, stopped, wake_held};
 use dc_kernel::Driver;
-use dc_objects::{BlockState, CoreState, Objects};
-
-/// What a dispatcher waits for on a channel: room to send, or a message to receive.
-#[derive(Clone, Copy)]
-pub(crate) enum ChannelWait {
-    Sends(ChanNo),
-    Receives(ChanNo),
-}
-
-/// The channel on which a dispatcher in this state waits, if it does.
-fn wait_in(state: DispState) -> Option<ChannelWait>
-    ensures { result ≡ channel_wait (Some state) }
-{
-    match state {
-        DispState::Waits(Wait::Csend(x)) => Some(ChannelWait::Sends(x)),
-        DispState::Waits(Wait::Crecv(x)) => Some(ChannelWait::Receives(x)),
-        _ => None,
-    }
-}
-
-/// The channel on which dispatcher `d` waits, if it does.
-#[tactic(auto, using(crate::proofs::Disps::state_told, crate::proofs::Disps::none_told))]
-pub(crate) fn channel_wait<D: Driver>(block: &BlockState<D>, d: DispNo) -> Option<ChannelWait>
-    requires { HasShape block.now.control }
-    ensures { result ≡ channel_wait (slice_get block.now.control.states d.0) }
-{
-    match block.disp(d) {
-        Some(disp) => wait_in(disp.state),
-        None => None,
-    }
-}
-
-pub(crate) fn channel_of(wait: ChannelWait) -> ChanNo
-    ensures { result ≡ channel_of wait }
-{
-    match wait {
-        ChannelWait::Sends(x) => x,
-        ChannelWait::Receives(x) => x,
-    }
-}
-
-/// Whether a dispatcher that waits so on the channel can go on.
-pub(crate) fn goes_on(wait: ChannelWait, channel: &Channel) -> bool
-    ensures { result ≡ goes_on wait channel.now }
-{
-    match wait {
-        ChannelWait::Sends(_) => !channel.is_full(),
-        ChannelWait::Receives(_) => channel.len() > 0,
-    }
-}
+use dc_objects::Objects;
 
 /// Dispatcher `d`, which waits on a channel, is ready again.
-pub(crate) fn wake_held<D: Driver>(
-    core: &mut CoreState,
-    block: &mut BlockState<D>,
-    c: CoreNo,
-    b: BlockNo,
-    d: DispNo,
-) -> Entry
-    requires budget { core.old.used < core.old.settings.slices }
-    requires held { IsHeld block.old }
-    requires waits { IsSome (channel_wait (slice_get block.old.control.states d.0)) }
-    ensures { after_wake c.0 core.old b.0 d.0 block.old ≡ did (core_becomes c.0 core.new ∷ block_becomes b.0 block.new ∷ []) result }
-{
-    core.count();
-    block.wake(d);
-    Entry {
-        actor: Actor::Core(c),
-        what: What::Wake { block: b, disp: d },
-    }
-}
-
-/// The same, of objects in their places.
 fn wake<D: Driver>(objects: &mut Objects<D>, c: CoreNo, b: BlockNo, d: DispNo) -> Stepped
     requires core { (k : Core) × (slice_get objects.old.cores.items c.0 ≡ Some k) × (k.used < k.settings.slices) }
     requires block { (x : Block) × (slice_get objects.old.blocks.items b.0 ≡ Some x) × IsHeld x × IsSome (channel_wait (slice_get x.control.states d.0)) }
-    ensures step { (k : Core) (x : Block) → slice_get objects.old.cores.items c.0 ≡ Some k → slice_get objects.old.blocks.items b.0 ≡ Some x →
-        Answers result (state_of objects.old) (state_of objects.new) (after_wake c.0 k b.0 d.0 x) }
+    ensures step { (k : Core) (x : Block) (w : Wait) (r : Ring) → CanWake k b.0 d.0 x w r → StandToWake (state_of objects.old) c.0 k b.0 x w r →
+        Answers result (state_of objects.old) (state_of objects.new) (core_step (state_of objects.old) 0 (actor.Core c) (action.Wake b d)) }
     ensures quiet { IsQuiet result }
 {
     let core = &mut objects.cores[c.0 as usize];
@@ -109,6 +34,7 @@ fn wake<D: Driver>(objects: &mut Objects<D>, c: CoreNo, b: BlockNo, d: DispNo) -
 }
 
 /// A core wakes dispatcher `d` of block `b`, if it can go on.
+#[inline(always)]
 pub(crate) fn wake_turn<D: Driver>(
     objects: &mut Objects<D>,
     c: CoreNo,

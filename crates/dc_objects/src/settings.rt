@@ -83,4 +83,32 @@ impl Settings {
     {
         self.clocks
     }
+
+    /// How many cores there are.
+    pub fn cores(&self) -> u32
+        ensures { result ≡ self.now.cores }
+    {
+        self.cores
+    }
+
+    /// How many blocks there are.
+    pub fn blocks(&self) -> u32
+        ensures { result ≡ self.now.blocks }
+    {
+        self.blocks
+    }
+
+    /// How many channels there are.
+    pub fn channels(&self) -> u32
+        ensures { result ≡ self.now.channels }
+    {
+        self.channels
+    }
+
+    /// How many lines there are.
+    pub fn lines(&self) -> u32
+        ensures { result ≡ self.now.lines }
+    {
+        self.lines
+    }
 }

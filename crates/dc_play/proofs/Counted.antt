@@ -10,7 +10,7 @@ use Rattle.dc_base.specs.TextWords.{ended}
 use Rattle.dc_base.specs.EntryText.{entry_text}
 use Rattle.dc_base.specs.Turns.{Outcome, did, not_enabled, spent}
 use Rattle.dc_ranges.proofs.RunEntries.{KeepsSound}
-use Rattle.dc_machine.specs.declared.turns.Stepped.{Stepped}
+use Rattle.dc_bodies.specs.declared.stops.Stepped.{Stepped}
 use Rattle.dc_machine.specs.Answers.{Answers, is_did, polls_then}
 use Rattle.dc_play.specs.declared.counting.Counts.{Counts}
 use Rattle.dc_play.specs.Counting.{IsCounting}

@@ -15,8 +15,8 @@ use Rattle.dc_base.specs.Cores.{core_step}
 use Rattle.dc_io.specs.declared.sinks.Failed.{Failed}
 use Rattle.dc_io.specs.Told.{AddsPrefix}
 use Rattle.dc_machine.specs.Answers.{Answers, polls_then}
-use Rattle.dc_machine.specs.declared.turns.Stepped.{Stepped}
-use Rattle.dc_machine.specs.declared.turns.Stepped.TheVariants as stepped
+use Rattle.dc_bodies.specs.declared.stops.Stepped.{Stepped}
+use Rattle.dc_bodies.specs.declared.stops.Stepped.TheVariants as stepped
 use Rattle.dc_ranges.proofs.RunEntries.{KeepsSound}
 use Rattle.dc_ranges.proofs.Shown.{Shows}
 use Rattle.dc_play.specs.Played.{PlaysTo, IsSized}

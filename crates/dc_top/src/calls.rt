@@ -15,13 +15,11 @@ use crate::halts::Halt;
 use crate::loads::load_play;
 use crate::statuses::{status_for, status_of_play};
 use dc_base::images::Image;
-use dc_edf::EdfDriver;
+use dc_both::EitherKernel;
 use dc_headline::every_run_is_reported;
 use dc_io::{Shelf, Sink};
-use dc_kernel::Both;
 use dc_play::play;
 use dc_ranges::entries_are_in_range;
-use dc_rr::RrDriver;
 use dc_script::{Schedule, Script};
 use dc_spelling::{tickets_are_in_order, what_is_spelled_is_read};
 use std::alloc::Global;
@@ -54,7 +52,7 @@ fn play_inputs<S: Sink>(
     ensures played { PlaysAs (S.faults sink.old) (S.faults sink.new) (S.told sink.old) (S.told sink.new) (play_text image.now script.now schedule.now) result }
     ensures grows { S.faults sink.old ≤ S.faults sink.new }
 {
-    let played = play::<Both<RrDriver, EdfDriver>, S>(alloc, image, script, schedule, sink);
+    let played = play::<EitherKernel, S>(alloc, image, script, schedule, sink);
     status_of_play(played)
 }
 

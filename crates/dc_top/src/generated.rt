@@ -13,12 +13,10 @@ ghost use Rattle.dc_top.specs.Written.{PlaysAs};
 
 use crate::statuses::status_for;
 use dc_base::memory::Memory;
-use dc_edf::EdfDriver;
+use dc_both::EitherKernel;
 use dc_gen::generate;
 use dc_io::{Failed, Sink};
-use dc_kernel::Both;
 use dc_play::{Summary, count_line, play_summary, put_line};
-use dc_rr::RrDriver;
 use std::alloc::Global;
 
 /// Plays the generated input of number `n`, and sums up the run.
@@ -28,7 +26,7 @@ fn summary_of(alloc: Global, n: u32) -> Result<Summary, Memory>
 {
     match generate(alloc, n) {
         Ok((image, script, schedule)) => {
-            play_summary::<Both<RrDriver, EdfDriver>>(alloc, &image, &script, &schedule)
+            play_summary::<EitherKernel>(alloc, &image, &script, &schedule)
         }
         Err(memory) => Err(memory),
     }

@@ -2,12 +2,11 @@ use Rattle.std.proofs.Common.{sym, ap, ◌∙◌}
 use Rattle.std.specs.Prelude.{is_some}
 use Rattle.dc_base.specs.declared.actions.Action.TheVariants as action
 use Rattle.dc_base.specs.declared.entries.Reason.TheVariants as reason
-use Rattle.dc_base.specs.Intakes.{intake_outcome, intake_turn}
+use Rattle.dc_base.specs.Intakes.{intake_turn}
 use Rattle.dc_base.specs.Turns.{outcome}
-use Rattle.std.specs.Prelude.{slice_get}
 use Rattle.dc_objects.specs.States.{state_of}
-use Rattle.dc_machine.proofs.Intakings.{core_off, core_on, pending_acts}
-use Rattle.dc_machine.proofs.Refusals.{refuses, answers_as, at_index}
+use Rattle.dc_bodies.proofs.IntakeTurns.{core_off, core_on}
+use Rattle.dc_machine.proofs.Refusals.{refuses, at_index}
 use Rattle.dc_machine.proofs.Sounds.{here}
 use Rattle.dc_machine.proofs.Stops.{core_answers}
 use Rattle.dc_machine.proofs.intakes.intake_turn.Goals as goal
@@ -39,12 +38,10 @@ returns-in-Ok-clause-step g c =
     let w = c.index.result.now in
     let p = c.in-Ok.p in
     let t = c.in-Ok.ensures.taken in
-    let line = at_index s.lines c.args.l.0 w c.requires.line c.index.ensures in
-    core_answers s (state_of c.take_in.new.objects) c.args.c (action.Intake c.args.l) k c.take_in.result (at_index s.cores c.args.c.0 k c.requires.core c.index-core.ensures)
-    (answers_as c.take_in.result s (state_of c.take_in.new.objects) (outcome s (intake_turn c.args.c.0 k c.args.l.0)) (intake_outcome c.args.c.0 c.args.l.0 w p.number p.block.0 p.signal.0 (slice_get s.blocks p.block.0))
-    (core_on s c.args.c.0 k c.args.l.0 w (sym (ap (λ v. is_some v) c.version.ensures) ∙ c.if-is_none.ensures) line
-    ∙ pending_acts s c.args.c.0 k c.args.l.0 w p.number p.block.0 p.signal.0 t.bound t.number t.route t.here)
-    (c.take_in.ensures.step w line))
+    let core = at_index s.cores c.args.c.0 k c.requires.core c.index-core.ensures in
+    let h = here s c.args.c.0 k p.block.0 c.requires.sound core t.here in
+    c.take_in.ensures.step k w h.block t
+    (record { core = core; is_on = sym (ap (λ v. is_some v) c.version.ensures) ∙ c.if-is_none.ensures; line = at_index s.lines c.args.l.0 w c.requires.line c.index.ensures; block = h.there })
 
 pub returns-in-Err-clause-step : goal.returns-in-Err-clause-step
 returns-in-Err-clause-step g c =

@@ -1,12 +1,16 @@
 -- A raise is taken in, with the block and the line in their places.
-use Rattle.std.proofs.Common.{◌≡◌, Option, Some, refl, sym, ap, ◌∙◌, subst, slice_get}
+use Rattle.std.proofs.Common.{◌≡◌, sym, subst}
 use Rattle.std.proofs.lemmas.Option.{slice_get_within}
-use Rattle.dc_base.specs.Intakes.{intake_outcome}
+use Rattle.dc_base.specs.declared.actions.Action.TheVariants as action
+use Rattle.dc_base.specs.declared.actions.Actor.TheVariants as actor
 use Rattle.dc_base.specs.Lines.{Wire}
 use Rattle.dc_base.specs.States.{State, Block}
+use Rattle.dc_bodies.specs.Pendings.{IsPending}
+use Rattle.dc_bodies.specs.TakenIn.{StandToTake}
 use Rattle.dc_objects.specs.States.{state_of}
-use Rattle.dc_machine.specs.Answers.{Answers}
-use Rattle.dc_machine.proofs.Intakings.{signal_there, line_is}
+use Rattle.dc_machine.proofs.Bodies.{did_answers}
+use Rattle.dc_machine.proofs.Intakings.{signal_there}
+use Rattle.dc_machine.proofs.OrderFacts.{read_is}
 use Rattle.dc_machine.proofs.Refusals.{at_index}
 use Rattle.dc_machine.proofs.intakes.take_in.Goals as goal
 
@@ -19,13 +23,13 @@ take_in_held-requires-clause-signal g c κs within =
     signal_there s c.args.l.0 c.args.p.block.0 c.args.p.signal.0 w.0 y c.requires.sound w.1 w.2 (at_index s.blocks c.args.p.block.0 y (slice_get_within s.blocks c.args.p.block.0 x.0 x.1) c.index_mut-block.ensures.value)
 
 pub returns-clause-step : goal.returns-clause-step
-returns-clause-step g c w e =
+returns-clause-step g c k w x pending at =
     let s : State = state_of c.args.objects.now in
-    let x = c.requires.block in
     let y : Block = c.index_mut-block.result.now in
     let v : Wire = c.index_mut-line.result.now in
-    let b = c.args.p.block.0 in
-    let block : slice_get s.blocks b ≡ Some y = at_index s.blocks b y (slice_get_within s.blocks b x.0 x.1) c.index_mut-block.ensures.value in
-    let line : w ≡ v = line_is s c.args.l.0 w v e (at_index s.lines c.args.l.0 v (slice_get_within s.lines c.args.l.0 w e) c.index_mut-line.ensures.value) in
-    let is = ap (λ (o : Option Block). intake_outcome c.args.c.0 c.args.l.0 w c.args.p.number b c.args.p.signal.0 o) block ∙ ap (λ (u : Wire). intake_outcome c.args.c.0 c.args.l.0 u c.args.p.number b c.args.p.signal.0 (Some y)) line ∙ c.take_in_held.ensures in
-    subst (Answers _ s _) (sym is) (refl, refl)
+    let p = c.args.p in
+    let same : w ≡ v = sym (read_is s.lines c.args.l.0 v w at.line c.index_mut-line.ensures.value) in
+    let alike : x ≡ y = sym (read_is s.blocks p.block.0 y x at.block c.index_mut-block.ensures.value) in
+    let is_so = subst (λ (u : Wire). IsPending c.args.c.0 k u p) same pending in
+    let at_so = subst (λ (u : Wire). StandToTake s c.args.c.0 k c.args.l.0 u p y) same (subst (λ (z : Block). StandToTake s c.args.c.0 k c.args.l.0 w p z) alike at) in
+    did_answers s (actor.Core c.args.c) (action.Intake c.args.l) _ c.take_in_held.result (c.take_in_held.ensures s k is_so at_so) 0

@@ -1,15 +1,21 @@
-use Rattle.std.proofs.Common.{ap, ◌∙◌, Some}
-use Rattle.dc_base.specs.States.{Core}
+use Rattle.dc_base.specs.declared.actions.Action.TheVariants as action
+use Rattle.dc_base.specs.declared.actions.Actor.TheVariants as actor
+use Rattle.dc_base.specs.declared.commands.Order.TheVariants as order
+use Rattle.dc_base.specs.States.{order as ordered}
 use Rattle.dc_objects.specs.States.{state_of}
-use Rattle.dc_machine.proofs.OrderFacts.{read_is}
-use Rattle.dc_machine.proofs.OrderSteps.{start_step}
+use Rattle.dc_machine.proofs.Bodies.{did_answers}
+use Rattle.dc_machine.proofs.OrderFacts.{read_is, stands}
 use Rattle.dc_machine.proofs.orders.start.Goals as goal
 
-pub returns-clause-step : goal.returns-clause-step
-returns-clause-step g c k e =
+pub start_held-requires : goal.start_held-requires
+start_held-requires g c =
     let s = state_of c.args.objects.now in
-    let same = read_is s.cores c.args.c.0 c.index_mut-core.result.now k e c.index_mut-core.ensures.value in
-    start_step s (state_of c.acked.new.objects) c.args.c c.acked.result k c.set_version.new.self c.args.v c.clock-clock.result
-    (record { entry = c.acked.ensures.entry; state = c.acked.ensures.mailbox })
-    (c.set_version.ensures ∙ ap (λ (x : Core). record x { version = Some c.args.v }) same)
-    (c.clock-clock.ensures ∙ ap (λ (x : Core). x.clock) same)
+    record { order = read_is s.mailboxes c.args.c.0 c.index_mut-mailbox.result.now (ordered (order.Start c.args.v)) c.requires.order c.index_mut-mailbox.ensures.value }
+
+pub returns-clause-step : goal.returns-clause-step
+returns-clause-step g c =
+    let s = state_of c.args.objects.now in
+    let k = c.index_mut-core.result.now in
+    let m = c.index_mut-mailbox.result.now in
+    did_answers s (actor.Core c.args.c) action.Order _ c.start_held.result
+    (c.start_held.ensures s (stands s c.args.c k m c.requires.core c.index_mut-core.ensures.value c.index_mut-mailbox.ensures.value (order.Start c.args.v) c.requires.order)) 0

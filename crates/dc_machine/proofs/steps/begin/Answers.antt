@@ -6,7 +6,7 @@ use Rattle.dc_base.specs.States.{State, Core, Block, Settings, with_control}
 use Rattle.dc_kernel.specs.Begins.{IsBegun, IsQuantum}
 use Rattle.dc_objects.specs.Blocks.{IsTimed, running_of}
 use Rattle.dc_objects.specs.States.{state_of}
-use Rattle.dc_machine.specs.InHand.{IsInHand}
+use Rattle.dc_bodies.specs.InHand.{IsInHand}
 use Rattle.dc_machine.proofs.InHands.{in_hand, quantum_is}
 use Rattle.dc_machine.proofs.Slicing.{item_is, of_core}
 use Rattle.dc_machine.proofs.steps.begin.Goals as goal

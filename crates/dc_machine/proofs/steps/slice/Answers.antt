@@ -10,8 +10,9 @@ use Rattle.dc_base.specs.States.{State, Core, Block}
 use Rattle.dc_kernel.specs.Begins.{IsQuantum}
 use Rattle.dc_calls.specs.Outsides.{outside_seen}
 use Rattle.dc_objects.specs.States.{state_of}
-use Rattle.dc_machine.specs.Held.{IsSlice, HasBegun}
-use Rattle.dc_machine.specs.Lifts.{HasNeeded, SameKind}
+use Rattle.dc_bodies.specs.OutsideKinds.{SameKind}
+use Rattle.dc_bodies.specs.Sliced.{IsSlice, HasBegun}
+use Rattle.dc_machine.specs.Lifts.{HasNeeded}
 use Rattle.dc_machine.proofs.Begun.{needed_alike, looked_alike, outside_alike, set_twice}
 use Rattle.dc_machine.proofs.InHands.{in_hand, quantum_is, clock_low}
 use Rattle.dc_machine.proofs.Needs.{has_needed}

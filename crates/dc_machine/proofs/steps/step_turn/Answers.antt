@@ -5,7 +5,7 @@ use Rattle.dc_base.specs.States.{State, Core}
 use Rattle.dc_base.specs.IdleTurns.{idle_outcome}
 use Rattle.dc_objects.specs.States.{state_of}
 use Rattle.dc_machine.specs.Answers.{Answers}
-use Rattle.dc_machine.specs.Nexts.{IsNext}
+use Rattle.dc_bodies.specs.Nexts.{IsNext}
 use Rattle.dc_machine.proofs.CoreTurns.{seen, stops, unspent, idles, nothing, first_listed, slices}
 use Rattle.dc_machine.proofs.InHands.{in_hand, budget_left}
 use Rattle.dc_machine.proofs.steps.step_turn.Goals as goal

@@ -4,13 +4,13 @@ use Rattle.dc_base.specs.declared.actions.Action.TheVariants as action
 use Rattle.dc_base.specs.declared.entries.Reason.TheVariants as reason
 use Rattle.dc_base.specs.Outcomes.{has, if_here}
 use Rattle.dc_base.specs.Turns.{look_block, outcome}
-use Rattle.dc_base.specs.Wakes.{after_wake, wake_in, wake_turn}
+use Rattle.dc_base.specs.Wakes.{wake_in, wake_turn}
 use Rattle.dc_objects.specs.States.{state_of}
-use Rattle.dc_machine.proofs.Refusals.{refuses, answers_as, at_index}
+use Rattle.dc_machine.proofs.Refusals.{refuses, at_index}
 use Rattle.dc_machine.proofs.Sounds.{here, shape, waits_there, held_as, waits_so}
 use Rattle.dc_machine.proofs.Stops.{stops, core_answers, budget_left}
-use Rattle.dc_machine.proofs.WakeTurns.{not_here, is_here}
-use Rattle.dc_machine.proofs.Wakings.{not_waiting, waiting, still_waits, wakes, woken}
+use Rattle.dc_bodies.proofs.WakeTurns.{not_here, is_here}
+use Rattle.dc_bodies.proofs.Wakings.{not_waiting, waiting, still_waits, woken}
 use Rattle.dc_machine.proofs.wakes.wake_turn.Goals as goal
 
 pub returns-in-Some-clause-step : goal.returns-in-Some-clause-step
@@ -97,16 +97,18 @@ returns-clause-step g c =
     let x = c.index.result.now in
     let w = c.in-Some-channel_wait.wait in
     let r = c.index-2.result.now in
-    let core = at_index s.cores c.args.c.0 k c.requires.core c.index-core.ensures in
     let block = at_index s.blocks c.args.b.0 x c.requires.block c.index.ensures in
-    core_answers s (state_of c.wake.new.objects) c.args.c (action.Wake c.args.b c.args.d) k c.wake.result core
-    (answers_as c.wake.result s (state_of c.wake.new.objects) (outcome s (wake_turn c.args.c.0 k c.args.b.0 c.args.d.0)) (after_wake c.args.c.0 k c.args.b.0 c.args.d.0 x)
-    (is_here s c.args.c.0 k c.args.b.0 c.args.d.0 (sym c.stopped.ensures ∙ c.in_default.is) x
-    (sym (ap (λ l. has l c.args.b.0) c.share.ensures) ∙ sym c.contains.ensures.value ∙ c.if-not-contains.false)
-    block
-    ∙ waiting s c.args.c.0 k c.args.b.0 c.args.d.0 x (slice_get x.control.states c.args.d.0) w (sym c.channel_wait.ensures ∙ c.in-Some-channel_wait.is)
-    ∙ ap (woken c.args.c.0 k c.args.b.0 c.args.d.0 x w) (ap (λ n. slice_get s.channels n.0) (sym c.channel_of.ensures) ∙ at_index s.channels c.channel_of.result.0 r
-    (subst (λ (n : _). n.0 < length s.channels) (sym c.channel_of.ensures) (waits_there s c.args.b.0 x c.args.d.0 w c.requires.sound block (sym c.channel_wait.ensures ∙ c.in-Some-channel_wait.is)))
-    c.index-2.ensures)
-    ∙ wakes s c.args.c.0 k c.args.b.0 c.args.d.0 x w r (sym c.goes_on.ensures ∙ c.if-not-goes_on.false))
-    (c.wake.ensures.step k x core block))
+    let waits = sym c.channel_wait.ensures ∙ c.in-Some-channel_wait.is in
+    c.wake.ensures.step k x w r
+    (record {
+      acts = sym c.stopped.ensures ∙ c.in_default.is;
+      here = sym (ap (λ l. has l c.args.b.0) c.share.ensures) ∙ sym c.contains.ensures.value ∙ c.if-not-contains.false;
+      waits = waits;
+      on = sym c.goes_on.ensures ∙ c.if-not-goes_on.false;
+    })
+    (record {
+      core = at_index s.cores c.args.c.0 k c.requires.core c.index-core.ensures;
+      block = block;
+      channel = ap (λ n. slice_get s.channels n.0) (sym c.channel_of.ensures) ∙ at_index s.channels c.channel_of.result.0 r
+          (subst (λ (n : _). n.0 < length s.channels) (sym c.channel_of.ensures) (waits_there s c.args.b.0 x c.args.d.0 w c.requires.sound block waits)) c.index-2.ensures;
+    })

@@ -1,0 +1,15 @@
+pub mod Begun
+pub mod CommandTurns
+pub mod Disps
+pub mod Dues
+pub mod Firsts
+pub mod IntakeTurns
+pub mod OutsideKinds
+pub mod Lifting
+pub mod OrderTurns
+pub mod RaiseTurns
+pub mod ShareChanges
+pub mod Slicing
+pub mod Times
+pub mod WakeTurns
+pub mod Wakings

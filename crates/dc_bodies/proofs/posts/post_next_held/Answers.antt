@@ -1,0 +1,8 @@
+use Rattle.dc_bodies.proofs.CommandTurns.{next_post_is}
+use Rattle.dc_bodies.proofs.posts.post_next_held.Goals as goal
+
+pub returns : goal.returns
+returns c =
+    next_post_is c.args.script.now c.put_order.new.script c.put_order.new.mailbox c.args.core c.args.order c.put_order.result
+    (record { entry = c.put_order.ensures.entry; script = c.put_order.ensures.script; mailbox = c.put_order.ensures.mailbox })
+    c.args.last c.requires.next c.args.emptied.now c.requires.acked c.empty.result c.empty.ensures

@@ -1,0 +1,17 @@
+pub mod Awaits
+pub mod Does
+pub mod Handing
+pub mod InHand
+pub mod OutsideKinds
+pub mod Nexts
+pub mod Ordered
+pub mod Pendings
+pub mod Postings
+pub mod Raised
+pub mod Scripted
+pub mod Sliced
+pub mod Slots
+pub mod Stops
+pub mod TakenIn
+pub mod Waits
+pub mod Woken
