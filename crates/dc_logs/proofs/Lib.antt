@@ -1,0 +1,9 @@
+pub mod Marks
+pub mod MarkPlaces
+pub mod ActorLogs
+pub mod Actors
+pub mod Counts
+pub mod Rows
+pub mod Merges
+pub mod Beginnings
+pub mod RestLaws

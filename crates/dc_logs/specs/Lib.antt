@@ -1,0 +1,4 @@
+pub mod Marks
+pub mod Logs
+pub mod Rests
+pub mod Recorded

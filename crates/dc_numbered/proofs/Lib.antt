@@ -1,0 +1,4 @@
+pub mod Ends
+pub mod Totals
+pub mod Rows
+pub mod Sorts

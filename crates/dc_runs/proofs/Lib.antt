@@ -1,0 +1,5 @@
+pub mod Beginnings
+pub mod Shares
+pub mod Fruitless
+pub mod OwnRuns
+pub mod Held
