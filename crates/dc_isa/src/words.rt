@@ -141,6 +141,7 @@ fn only(fields: bool, instr: Instr) -> Option<Instr>
 }
 
 /// The instruction of an operation with these fields. None where a field is out of its range, or is not used and not 0.
+#[inline(always)]
 #[tactic(auto, unfolding(dc_base::specs::Instructions::instr_at, dc_base::specs::Instructions::is_proper, dc_base::specs::Instructions::encode))]
 fn instr_of(operation: u32, a: u32, b: u32, imm: u32) -> Option<Instr>
     requires a { a < 16 }
