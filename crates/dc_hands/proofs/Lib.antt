@@ -1,0 +1,14 @@
+pub mod Seeing
+pub mod Sounding
+pub mod HeldNames
+pub mod HeldHands
+pub mod Rowing
+pub mod ShareRows
+pub mod RowHolds
+pub mod Waiters
+pub mod HandShows
+pub mod ObjectNumbers
+pub mod KindCases
+pub mod Calling
+pub mod Gathered
+pub mod RowRoom

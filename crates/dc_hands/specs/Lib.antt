@@ -1,0 +1,6 @@
+pub mod Machines
+pub mod Holding
+pub mod Answers
+pub mod Rows
+pub mod Hands
+pub mod Gathering
