@@ -1,6 +1,6 @@
 //! The blocks of a core change hands where they stand.
 
-ghost use Rattle.std.specs.Prelude.{◌≡◌, ℕ, ◌≤◌, Some, true, length};
+ghost use Rattle.std.specs.Prelude.{◌≡◌, ℕ, ◌≤◌, Some, true, length, vec_capacity};
 ghost use Rattle.dc_base.specs.Orders.{block_at_rest, block_under};
 ghost use Rattle.dc_base.specs.Placed.{count_in};
 ghost use Rattle.dc_base.specs.States.{Block};
@@ -24,6 +24,7 @@ fn release_one<D: Driver, P: Places>(
     requires apart { AreApart (P.at places.now) (length blocks.old.items) }
     ensures block { IsChangedAt (block_at_rest clock) b.0 (seen_at (P.at places.now) blocks.old.items) (seen_at (P.at places.now) blocks.new.items) }
     ensures count { length blocks.new.items ≡ length blocks.old.items }
+    ensures room { vec_capacity blocks.new ≡ vec_capacity blocks.old }
 {
     blocks[places.place(b)].release(clock);
 }
@@ -41,6 +42,7 @@ fn replace_one<D: Driver, P: Places>(
     requires served { D.served v ≡ true }
     ensures block { IsChangedAt (block_under v) b.0 (seen_at (P.at places.now) blocks.old.items) (seen_at (P.at places.now) blocks.new.items) }
     ensures count { length blocks.new.items ≡ length blocks.old.items }
+    ensures room { vec_capacity blocks.new ≡ vec_capacity blocks.old }
 {
     blocks[places.place(b)].replace(v, clock);
 }
@@ -54,8 +56,10 @@ pub fn release_all<D: Driver, P: Places>(
     requires blocks { AreTimed core.now.clock core.now.share (seen_at (P.at places.now) blocks.old.items) }
     requires apart { AreApart (P.at places.now) (length blocks.old.items) }
     requires once { (b : ℕ) → count_in core.now.share b ≤ 1 }
-    ensures { AreChanged (block_at_rest core.now.clock) core.now.share (seen_at (P.at places.now) blocks.old.items)
+    ensures blocks { AreChanged (block_at_rest core.now.clock) core.now.share (seen_at (P.at places.now) blocks.old.items)
         (seen_at (P.at places.now) blocks.new.items) }
+    ensures count { length blocks.new.items ≡ length blocks.old.items }
+    ensures room { vec_capacity blocks.new ≡ vec_capacity blocks.old }
 {
     let share = core.share();
     for i in 0..share.len() {
@@ -76,7 +80,9 @@ pub fn replace_all<D: Driver, P: Places>(
     requires apart { AreApart (P.at places.now) (length blocks.old.items) }
     requires once { (b : ℕ) → count_in core.now.share b ≤ 1 }
     requires served { D.served v ≡ true }
-    ensures { AreChanged (block_under v) core.now.share (seen_at (P.at places.now) blocks.old.items) (seen_at (P.at places.now) blocks.new.items) }
+    ensures blocks { AreChanged (block_under v) core.now.share (seen_at (P.at places.now) blocks.old.items) (seen_at (P.at places.now) blocks.new.items) }
+    ensures count { length blocks.new.items ≡ length blocks.old.items }
+    ensures room { vec_capacity blocks.new ≡ vec_capacity blocks.old }
 {
     let share = core.share();
     for place in 0..share.len() {

@@ -1,6 +1,6 @@
 //! A core carries out the order in its mailbox.
 
-ghost use Rattle.std.specs.Prelude.{◌≡◌, ℕ, ◌≤◌, true, length, IfErr, IfOk};
+ghost use Rattle.std.specs.Prelude.{◌≡◌, ℕ, ◌≤◌, true, length, vec_capacity, IfErr, IfOk};
 ghost use Rattle.dc_base.specs.declared.commands.Order.TheVariants as order;
 ghost use Rattle.dc_base.specs.declared.kernels.Version.TheVariants.{Rr, Edf};
 ghost use Rattle.dc_base.specs.Orders.{adopted_time, block_at_rest, block_under};
@@ -72,6 +72,8 @@ pub fn stop_held<D: Driver, P: Places>(
         (seen_at (P.at places.now) blocks.new.items) result }
     ensures blocks { AreChanged (block_at_rest core.old.clock) core.old.share (seen_at (P.at places.now) blocks.old.items)
         (seen_at (P.at places.now) blocks.new.items) }
+    ensures count { length blocks.new.items ≡ length blocks.old.items }
+    ensures room { vec_capacity blocks.new ≡ vec_capacity blocks.old }
 {
     let released = core.share().len();
     release_all(blocks, places, core);
@@ -97,6 +99,8 @@ pub fn replace_held<D: Driver, P: Places>(
     ensures turn { IsShareOrder c.0 core.old core.new mailbox.old mailbox.new (seen_at (P.at places.now) blocks.old.items)
         (seen_at (P.at places.now) blocks.new.items) result }
     ensures blocks { AreChanged (block_under v) core.old.share (seen_at (P.at places.now) blocks.old.items) (seen_at (P.at places.now) blocks.new.items) }
+    ensures count { length blocks.new.items ≡ length blocks.old.items }
+    ensures room { vec_capacity blocks.new ≡ vec_capacity blocks.old }
 {
     replace_all(blocks, places, core, v);
     core.set_version(v);

@@ -87,7 +87,7 @@ fn put_last<D: Driver>(
 }
 
 /// Puts the blocks of the row back.
-fn put_blocks<D: Driver>(
+pub fn put_blocks<D: Driver>(
     stage: &Stage<Machine<D>>,
     pass: &mut Pass<Machine<D>>,
     hand: &mut CoreHand<D>,

@@ -13,7 +13,7 @@ mod waiting;
 
 pub use answers::Turned;
 pub use commits::commit;
-pub use gathers::{gather_core, gather_script, stow_core, stow_script};
+pub use gathers::{gather_core, gather_script, put_blocks, stow_core, stow_script};
 pub use hands::{CoreHand, ScriptHand};
 pub use rows::{Row, RowNumbers};
 pub use takes::{

@@ -13,7 +13,7 @@ pub loop-i-init : goal.loop-i-init
 loop-i-init g c =
     let k : Core = c.args.core.now in
     let seen : List Block → ℕ → Option Block = seen_at (g.P.Places.at c.args.places.now) in
-    record { left = none_made (block_at_rest k.clock) k.clock k.share (seen c.args.blocks.now.items) (record { once = c.requires.once }) c.requires.blocks; count = refl }
+    record { left = none_made (block_at_rest k.clock) k.clock k.share (seen c.args.blocks.now.items) (record { once = c.requires.once }) c.requires.blocks; count = refl; room = refl }
 
 pub release_one-requires-clause-block : goal.release_one-requires-clause-block
 release_one-requires-clause-block g c κs within =
@@ -37,14 +37,15 @@ loop-i-preserved g c =
             left = turn_made (block_at_rest k.clock) k.clock k.share c.loop-i.i w.in-Some.b.0 (seen c.args.blocks.now.items) (seen c.loop-i.blocks.items) here c.loop-i.invariant.left (seen c.match-at.blocks.items)
                 (rw w.blocks-is ((subst (λ n. IsChangedAt (block_at_rest n) w.in-Some.b.0 (seen c.loop-i.blocks.items) (seen w.release_one.new.blocks.items)) w.clock.ensures w.release_one.ensures.block)));
             count = rw w.blocks-is (w.release_one.ensures.count ∙ c.loop-i.invariant.count);
+            room = rw w.blocks-is (w.release_one.ensures.room ∙ c.loop-i.invariant.room);
           })
       | in_default w ↦ (
           let below : c.loop-i.i < length k.share = subst (λ n. c.loop-i.i < n) (c.len-i-end.ensures.value ∙ ap length c.share-share.ensures) c.loop-i-test.true in
           absurd (none_at k.share c.loop-i.i below (block_at c.share-share.result.now k.share c.loop-i.i None c.share-share.ensures w.in_default.ensures)))
     ]
 
-pub returns : goal.returns
-returns g c =
+pub returns-clause-blocks : goal.returns-clause-blocks
+returns-clause-blocks g c =
     let k : Core = c.args.core.now in
     let seen : List Block → ℕ → Option Block = seen_at (g.P.Places.at c.args.places.now) in
     let long = c.len-i-end.ensures.value ∙ ap length c.share-share.ensures in

@@ -13,7 +13,7 @@ pub loop-place-init : goal.loop-place-init
 loop-place-init g c =
     let k : Core = c.args.core.now in
     let seen : List Block → ℕ → Option Block = seen_at (g.P.Places.at c.args.places.now) in
-    record { left = none_made (block_under c.args.v) k.clock k.share (seen c.args.blocks.now.items) (record { once = c.requires.once }) c.requires.blocks; count = refl }
+    record { left = none_made (block_under c.args.v) k.clock k.share (seen c.args.blocks.now.items) (record { once = c.requires.once }) c.requires.blocks; count = refl; room = refl }
 
 pub replace_one-requires-clause-block : goal.replace_one-requires-clause-block
 replace_one-requires-clause-block g c κs within =
@@ -37,14 +37,15 @@ loop-place-preserved g c =
             left = turn_made (block_under c.args.v) k.clock k.share c.loop-place.place w.in-Some.b.0 (seen c.args.blocks.now.items) (seen c.loop-place.blocks.items) here c.loop-place.invariant.left (seen c.match-at.blocks.items)
                 (rw w.blocks-is (w.replace_one.ensures.block));
             count = rw w.blocks-is (w.replace_one.ensures.count ∙ c.loop-place.invariant.count);
+            room = rw w.blocks-is (w.replace_one.ensures.room ∙ c.loop-place.invariant.room);
           })
       | in_default w ↦ (
           let below : c.loop-place.place < length k.share = subst (λ n. c.loop-place.place < n) (c.len-place-end.ensures.value ∙ ap length c.share-share.ensures) c.loop-place-test.true in
           absurd (none_at k.share c.loop-place.place below (block_at c.share-share.result.now k.share c.loop-place.place None c.share-share.ensures w.in_default.ensures)))
     ]
 
-pub returns : goal.returns
-returns g c =
+pub returns-clause-blocks : goal.returns-clause-blocks
+returns-clause-blocks g c =
     let k : Core = c.args.core.now in
     let seen : List Block → ℕ → Option Block = seen_at (g.P.Places.at c.args.places.now) in
     let long = c.len-place-end.ensures.value ∙ ap length c.share-share.ensures in

@@ -1,0 +1,11 @@
+use Rattle.std.proofs.Common.{◌≡◌}
+use Rattle.dc_hands.specs.Holding.{GoesOn}
+use Rattle.dc_rounds.specs.Working.{WorksCore}
+use Rattle.dc_rounds.proofs.rounds.wake_all.Given as goal
+
+abbrev pub invariant-loop-i : goal.invariant-loop-i
+invariant-loop-i g l = record {
+  work : WorksCore l.stage l.pass l.log l.hand;
+  on : GoesOn l.initial.pass l.pass;
+  number : l.hand.number ≡ l.initial.hand.number;
+}

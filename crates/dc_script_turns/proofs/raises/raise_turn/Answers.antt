@@ -1,0 +1,17 @@
+use Rattle.std.proofs.Common.{[]}
+use Rattle.dc_base.specs.declared.actions.Action.TheVariants as action
+use Rattle.dc_hands.specs.Machines.{state_after}
+use Rattle.dc_script_turns.proofs.ScriptEntries.{refuses_step}
+use Rattle.dc_script_turns.proofs.ScriptSteps.{acts_none, begun, stays}
+use Rattle.dc_script_turns.proofs.raises.raise_turn.Goals as goal
+
+pub returns-in-Err : goal.returns-in-Err
+returns-in-Err g c =
+    let st = c.args.stage.now in
+    let k = c.args.pass.now in
+    let h = c.args.hand.now in
+    let t = h.script in
+    let b = begun st c.requires.opened k h c.requires.hand in
+    let v = state_after st k.seen in
+    acts_none st k k h action.Raise c.in-Err.why (stays st k t [] b) c.requires.hand.polls
+    (refuses_step v action.Raise c.in-Err.why (c.in-Err.ensures.none v c.requires.hand.script) h.polls) c.in-Err.ensures.quiet
