@@ -1,3 +1,4 @@
 pub mod Looked
 pub mod AtWork
 pub mod QuietSteps
+pub mod Coming

@@ -45,6 +45,7 @@ pub fn act<D: Driver>(
     ensures work { WorksCore stage.now pass.new log.new hand.new }
     ensures number { hand.new.number ≡ hand.old.number }
     ensures on { GoesOn pass.old pass.new }
+    ensures room { log.new.room ≡ log.old.room }
     ensures same { IsNoDid result → (hand.new ≡ hand.old) × (log.new ≡ log.old) }
     ensures vain { VainAt stage.now pass.new hand.new.number.0 action.now result }
 {

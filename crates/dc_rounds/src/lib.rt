@@ -2,11 +2,13 @@
 #![tactic(auto)]
 
 mod acting;
+mod homes;
 mod looking;
 mod quiet;
 mod rounds;
 
 pub use acting::{Went, act};
+pub use homes::{is_core_quiet, look_at_home, round_once};
 pub use looking::look_at_work;
 pub use quiet::is_quiet_at;
 pub use rounds::{Round, go_round};

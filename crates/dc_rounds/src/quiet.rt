@@ -41,6 +41,7 @@ fn is_in_vain<D: Driver>(
     ensures work { WorksCore stage.now pass.new log.new hand.new }
     ensures number { hand.new.number ≡ hand.old.number }
     ensures on { GoesOn pass.old pass.new }
+    ensures room { log.new.room ≡ log.old.room }
     ensures vain { result ≡ true → IsInVainAt stage.now pass.old pass.new hand.old hand.new action.now }
 {
     prefixes_of_one_length();
@@ -67,6 +68,7 @@ fn are_intakes_in_vain<D: Driver>(
     ensures work { WorksCore stage.now pass.new log.new hand.new }
     ensures number { hand.new.number ≡ hand.old.number }
     ensures on { GoesOn pass.old pass.new }
+    ensures room { log.new.room ≡ log.old.room }
     ensures still { result ≡ true → IsStill pass.old pass.new hand.old hand.new }
     ensures tried { result ≡ true → TriedLines stage.now pass.new hand.new.number.0 stage.now.scene.settings.lines }
 {
@@ -100,6 +102,7 @@ fn is_wake_in_vain<D: Driver>(
     ensures work { WorksCore stage.now pass.new log.new hand.new }
     ensures number { hand.new.number ≡ hand.old.number }
     ensures on { GoesOn pass.old pass.new }
+    ensures room { log.new.room ≡ log.old.room }
     ensures still { result ≡ true → IsStill pass.old pass.new hand.old hand.new }
     ensures tried { result ≡ true → IsTriedDisp stage.now pass.new hand.new b.0 d.0 }
 {
@@ -130,6 +133,7 @@ fn are_wakes_in_vain<D: Driver>(
     ensures work { WorksCore stage.now pass.new log.new hand.new }
     ensures number { hand.new.number ≡ hand.old.number }
     ensures on { GoesOn pass.old pass.new }
+    ensures room { log.new.room ≡ log.old.room }
     ensures still { result ≡ true → IsStill pass.old pass.new hand.old hand.new }
     ensures tried { result ≡ true → (x : Block) → in_row hand.new.row b.0 ≡ Some x → TriedDisps stage.now pass.new hand.new b.0 (length x.control.states) }
 {
@@ -158,6 +162,7 @@ fn is_share_in_vain<D: Driver>(
     ensures work { WorksCore stage.now pass.new log.new hand.new }
     ensures number { hand.new.number ≡ hand.old.number }
     ensures on { GoesOn pass.old pass.new }
+    ensures room { log.new.room ≡ log.old.room }
     ensures still { result ≡ true → IsStill pass.old pass.new hand.old hand.new }
     ensures tried { result ≡ true → TriedShare stage.now pass.new hand.new (length hand.new.core.share) }
 {
@@ -190,6 +195,7 @@ pub fn is_quiet_at<D: Driver>(
     ensures work { WorksCore stage.now pass.new log.new hand.new }
     ensures number { hand.new.number ≡ hand.old.number }
     ensures on { GoesOn pass.old pass.new }
+    ensures room { log.new.room ≡ log.old.room }
     ensures quiet { result ≡ true → IsQuietAt stage.now n pass.new hand.new.number.0 }
 {
     hands_show_their_blocks::<D>();

@@ -52,6 +52,7 @@ fn take_in_all<D: Driver>(
     ensures work { WorksCore stage.now pass.new log.new hand.new }
     ensures number { hand.new.number ≡ hand.old.number }
     ensures on { GoesOn pass.old pass.new }
+    ensures room { log.new.room ≡ log.old.room }
 {
     for l in 0..stage.scene().settings.lines() {
         round.note(act(stage, pass, log, hand, &Action::Intake(LineNo(l))));
@@ -77,6 +78,7 @@ fn wake<D: Driver>(
     ensures work { WorksCore stage.now pass.new log.new hand.new }
     ensures number { hand.new.number ≡ hand.old.number }
     ensures on { GoesOn pass.old pass.new }
+    ensures room { log.new.room ≡ log.old.room }
 {
     hands_show_their_blocks::<D>();
     if b.0 >= stage.scene().settings.blocks() {
@@ -104,6 +106,7 @@ fn wake_block<D: Driver>(
     ensures work { WorksCore stage.now pass.new log.new hand.new }
     ensures number { hand.new.number ≡ hand.old.number }
     ensures on { GoesOn pass.old pass.new }
+    ensures room { log.new.room ≡ log.old.room }
 {
     let disps = hand.disps(b).min(16);
     for d in 0..disps {
@@ -127,6 +130,7 @@ fn wake_all<D: Driver>(
     ensures work { WorksCore stage.now pass.new log.new hand.new }
     ensures number { hand.new.number ≡ hand.old.number }
     ensures on { GoesOn pass.old pass.new }
+    ensures room { log.new.room ≡ log.old.room }
 {
     for i in 0..hand.share_len() {
         if let Some(b) = hand.share_at(i) {
@@ -153,6 +157,7 @@ fn act_in<D: Driver>(
     ensures work { WorksCore stage.now pass.new log.new hand.new }
     ensures number { hand.new.number ≡ hand.old.number }
     ensures on { GoesOn pass.old pass.new }
+    ensures room { log.new.room ≡ log.old.room }
 {
     round.note(act(stage, pass, log, hand, action));
 }
@@ -172,6 +177,7 @@ pub fn go_round<D: Driver>(
     ensures work { WorksCore stage.now pass.new log.new hand.new }
     ensures number { hand.new.number ≡ hand.old.number }
     ensures on { GoesOn pass.old pass.new }
+    ensures room { log.new.room ≡ log.old.room }
 {
     let mut round = Round::default();
     act_in(stage, pass, log, hand, &mut round, &Action::Order);

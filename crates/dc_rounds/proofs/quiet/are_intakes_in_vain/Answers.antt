@@ -10,6 +10,7 @@ pub loop-l-init : goal.loop-l-init
 loop-l-init g c = record {
   work = c.requires.work;
   on = goes_now c.args.pass.now;
+  room = refl;
   still = still_now c.args.pass.now c.args.hand.now;
   tried = λ l below. absurd (omega arith);
 }
@@ -42,6 +43,7 @@ loop-l-preserved g c =
     record {
       work = c.is_in_vain.ensures.work;
       on = goes_through c.args.pass.now c.loop-l.pass c.is_in_vain.new.pass i.on c.is_in_vain.ensures.on;
+      room = c.is_in_vain.ensures.room ∙ c.loop-l.invariant.room;
       still = still_through c.args.pass.now c.loop-l.pass c.is_in_vain.new.pass c.args.hand.now c.loop-l.hand c.is_in_vain.new.hand i.still v.still;
       tried = lines_more st c.is_in_vain.new.pass c.is_in_vain.new.hand c.loop-l.l
           (lines_still st c.loop-l.pass c.is_in_vain.new.pass c.loop-l.hand c.is_in_vain.new.hand v.still c.loop-l.l i.tried) v.vain;
@@ -61,3 +63,9 @@ returns-clause-still g c = λ _. c.loop-l.invariant.still
 
 pub returns-clause-tried : goal.returns-clause-tried
 returns-clause-tried g c = λ _ l below. c.loop-l.invariant.tried l (omega (arith, c.loop-l-test.false, c.lines-l-end.ensures ∙ ap (λ m. m.settings.lines) c.scene.ensures, below))
+
+pub returns-then-not-is_in_vain-clause-room : goal.returns-then-not-is_in_vain-clause-room
+returns-then-not-is_in_vain-clause-room g c = c.is_in_vain.ensures.room ∙ c.loop-l.invariant.room
+
+pub returns-clause-room : goal.returns-clause-room
+returns-clause-room g c = c.loop-l.invariant.room

@@ -1,4 +1,4 @@
-use Rattle.std.proofs.Common.{◌≡◌, Some, length, ap, ◌∙◌, subst, arith}
+use Rattle.std.proofs.Common.{◌≡◌, Some, length, refl, ap, ◌∙◌, subst, arith}
 use Rattle.dc_hands.specs.Rows.{in_row}
 use Rattle.dc_hands.proofs.Seeing.{goes_now, goes_through, still_of}
 use Rattle.dc_rounds.proofs.QuietSteps.{still_now, still_through, disps_still, disps_more}
@@ -8,6 +8,7 @@ pub loop-d-init : goal.loop-d-init
 loop-d-init g c = record {
   work = c.requires.work;
   on = goes_now c.args.pass.now;
+  room = refl;
   still = still_now c.args.pass.now c.args.hand.now;
   tried = λ d below. absurd (omega arith);
 }
@@ -43,6 +44,7 @@ loop-d-preserved g c =
     record {
       work = c.is_wake_in_vain.ensures.work;
       on = goes_through c.args.pass.now c.loop-d.pass c.is_wake_in_vain.new.pass i.on c.is_wake_in_vain.ensures.on;
+      room = c.is_wake_in_vain.ensures.room ∙ c.loop-d.invariant.room;
       still = still_through c.args.pass.now c.loop-d.pass c.is_wake_in_vain.new.pass c.args.hand.now c.loop-d.hand c.is_wake_in_vain.new.hand i.still s;
       tried = disps_more st c.is_wake_in_vain.new.pass c.is_wake_in_vain.new.hand c.args.b.0 c.loop-d.d
           (disps_still st c.loop-d.pass c.is_wake_in_vain.new.pass c.loop-d.hand c.is_wake_in_vain.new.hand s c.args.b.0 c.loop-d.d i.tried)
@@ -63,3 +65,9 @@ returns-clause-still g c = λ _. c.loop-d.invariant.still
 
 pub returns-clause-tried : goal.returns-clause-tried
 returns-clause-tried g c = λ _ x at d below. c.loop-d.invariant.tried d (omega (arith, c.loop-d-test.false, c.disps-d-end.ensures x (subst (λ h. in_row h.row c.args.b.0 ≡ Some x) c.loop-d.invariant.still.hand at), below))
+
+pub returns-then-not-is_wake_in_vain-clause-room : goal.returns-then-not-is_wake_in_vain-clause-room
+returns-then-not-is_wake_in_vain-clause-room g c = c.is_wake_in_vain.ensures.room ∙ c.loop-d.invariant.room
+
+pub returns-clause-room : goal.returns-clause-room
+returns-clause-room g c = c.loop-d.invariant.room

@@ -1,4 +1,4 @@
-use Rattle.std.proofs.Common.{length, inr, sym, ap, ◌∙◌, arith}
+use Rattle.std.proofs.Common.{length, refl, inr, sym, ap, ◌∙◌, arith}
 use Rattle.std.specs.Prelude.{slice_get}
 use Rattle.dc_base.specs.Changes.{a_block}
 use Rattle.dc_base.specs.Outcomes.{share_blocks}
@@ -12,6 +12,7 @@ pub loop-i-init : goal.loop-i-init
 loop-i-init g c = record {
   work = c.requires.work;
   on = goes_now c.args.pass.now;
+  room = refl;
   still = still_now c.args.pass.now c.args.hand.now;
   tried = λ j b below. absurd (omega arith);
 }
@@ -65,6 +66,7 @@ loop-i-preserved g c =
     record {
       work = c.are_wakes_in_vain.ensures.work;
       on = goes_through c.args.pass.now c.loop-i.pass l i.on c.are_wakes_in_vain.ensures.on;
+      room = c.are_wakes_in_vain.ensures.room ∙ c.loop-i.invariant.room;
       still = still_through c.args.pass.now c.loop-i.pass l c.args.hand.now c.loop-i.hand h i.still s;
       tried = share_more st l h c.loop-i.i c.in-Some.b.0 (share_still st c.loop-i.pass l c.loop-i.hand h s c.loop-i.i i.tried)
           (ap (λ m. slice_get (share_blocks m.core.share) c.loop-i.i) s.hand ∙ sym c.in-Some.ensures)
@@ -86,3 +88,12 @@ returns-clause-still g c = λ _. c.loop-i.invariant.still
 pub returns-clause-tried : goal.returns-clause-tried
 returns-clause-tried g c = λ _ j b below.
     c.loop-i.invariant.tried j b (omega (arith, c.loop-i-test.false, c.share_len-i-end.ensures.value, ap (λ h. length h.core.share) c.loop-i.invariant.still.hand, below))
+
+pub returns-then-not-are_wakes_in_vain-clause-room : goal.returns-then-not-are_wakes_in_vain-clause-room
+returns-then-not-are_wakes_in_vain-clause-room g c = c.are_wakes_in_vain.ensures.room ∙ c.loop-i.invariant.room
+
+pub returns-clause-room : goal.returns-clause-room
+returns-clause-room g c = c.loop-i.invariant.room
+
+pub returns-in_default-clause-room : goal.returns-in_default-clause-room
+returns-in_default-clause-room g c = c.loop-i.invariant.room

@@ -7,5 +7,6 @@ abbrev pub invariant-loop-d : goal.invariant-loop-d
 invariant-loop-d g l = record {
   work : WorksCore l.stage l.pass l.log l.hand;
   on : GoesOn l.initial.pass l.pass;
+  room : l.log.room ≡ l.initial.log.room;
   number : l.hand.number ≡ l.initial.hand.number;
 }
