@@ -1,5 +1,5 @@
 -- An actor at work: its objects in hand, and the log of its entries.
-use Rattle.std.specs.Prelude.{◌≡◌, ◌<◌, ℕ, Some, true, length, slice_get, ⊤}
+use Rattle.std.specs.Prelude.{◌≡◌, ◌<◌, ℕ, Some, true, length, slice_get, ⊤, [], ◌∷◌, ◌++◌}
 use Rattle.dc_base.specs.declared.actions.Action.{Action}
 use Rattle.dc_base.specs.declared.actions.Action.TheVariants as action
 use Rattle.dc_base.specs.declared.dispatchers.DispState.{DispState}
@@ -7,6 +7,7 @@ use Rattle.dc_base.specs.Named.{waits_on_channel}
 use Rattle.dc_base.specs.Outcomes.{share_blocks}
 use Rattle.dc_base.specs.States.{Block}
 use Rattle.dc_base.specs.Words.{Each}
+use Rattle.dc_journal.specs.declared.merging.Logged.{Logged}
 use Rattle.dc_logs.specs.Marks.{IsLogOf}
 use Rattle.dc_logs.specs.Recorded.{Recorded}
 use Rattle.dc_runs.specs.Tries.{IsInVain, IsTriedOut}
@@ -39,10 +40,13 @@ module _ {D : Type 0} (st : Staged D) where
     pub hand : HoldsCore st k h
     pub log : IsLogOf k.actor k.seen l.entries
 
-  -- where an action was in vain, it makes no entry in the state after all that the pass has seen
-  abbrev pub VainAt : Passing D → ℕ → Action → Went → Type 0
-  VainAt k c a went.InVain = IsInVain (state_after st k.seen) c a
-  VainAt k c a w = ⊤
+  -- What an action came to: its entry stands last in the log; or it makes no entry in the state after all that the pass has seen; or a take was refused; or
+  -- the log has no room. The log is old before and new after.
+  abbrev pub WentAt : (k l : Passing D) → (old new : Recorded) → ℕ → Action → Went → Type 0
+  WentAt k l old new c a went.Did = (e : Logged) × (new.entries ≡ old.entries ++ e ∷ [])
+  WentAt k l old new c a went.InVain = IsInVain (state_after st l.seen) c a
+  WentAt k l old new c a went.Busy = (b : ℕ × ℕ) × (l.refused ≡ b ∷ k.refused)
+  WentAt k l old new c a went.Full = length old.entries ≡ old.room
 
   -- after n entries the core can do nothing
   pub record IsQuietAt (n : ℕ) (k : Passing D) (c : ℕ) : Type 0 where

@@ -7,7 +7,7 @@ ghost use Rattle.dc_base.specs.Valid.{IsActionOf};
 ghost use Rattle.dc_stage.specs.Passes.{IsOf};
 ghost use Rattle.dc_hands.specs.Holding.{GoesOn};
 ghost use Rattle.dc_hands.specs.Machines.{IsOpened};
-ghost use Rattle.dc_rounds.specs.Working.{IsNoDid, VainAt, WorksCore};
+ghost use Rattle.dc_rounds.specs.Working.{IsNoDid, WentAt, WorksCore};
 
 use dc_base::actions::Action;
 use dc_base::numbers::Ticket;
@@ -47,7 +47,7 @@ pub fn act<D: Driver>(
     ensures on { GoesOn pass.old pass.new }
     ensures room { log.new.room ≡ log.old.room }
     ensures same { IsNoDid result → (hand.new ≡ hand.old) × (log.new ≡ log.old) }
-    ensures vain { VainAt stage.now pass.new hand.new.number.0 action.now result }
+    ensures went { WentAt stage.now pass.old pass.new log.old log.new hand.new.number.0 action.now result }
 {
     logs_are_counted();
     logs_stay();
