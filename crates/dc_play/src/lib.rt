@@ -13,5 +13,6 @@ mod writing;
 
 pub use lines::{count_line, word_line};
 pub use plays::{play, play_on, play_out};
+pub use reporting::write_report;
 pub use summaries::{Summary, play_summary};
 pub use writing::{put_line, put_text};

@@ -39,10 +39,7 @@ fn write_lines<D: Driver, S: Sink>(objects: &Objects<D>, sink: &mut S) -> Result
 }
 
 /// Writes the report.
-pub(crate) fn write_report<D: Driver, S: Sink>(
-    objects: &Objects<D>,
-    sink: &mut S,
-) -> Result<(), Failed>
+pub fn write_report<D: Driver, S: Sink>(objects: &Objects<D>, sink: &mut S) -> Result<(), Failed>
     requires { IsSound (state_of objects.now) }
     ensures writes { Writes (S.told sink.old) (S.told sink.new) (report_text (report_lines (state_of objects.now))) result }
     ensures failed { OnErr result (Rose (S.faults sink.old) (S.faults sink.new)) }

@@ -91,6 +91,7 @@ pub fn is_core_quiet<D: Driver>(
     ensures home { IsAtHome stage.now pass.new log.new c.0 }
     ensures on { GoesOn pass.old pass.new }
     ensures row { result.0 ≡ no_row }
+    ensures room { log.new.room ≡ log.old.room }
     ensures quiet { result.1 ≡ true → IsQuietAt stage.now n pass.new c.0 }
 {
     history_is_of_the_machine::<D>();
