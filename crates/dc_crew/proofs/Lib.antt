@@ -1,0 +1,10 @@
+pub mod Laters
+pub mod Staying
+pub mod Homes
+pub mod Joining
+pub mod Ending
+pub mod Splitting
+pub mod AtWork
+pub mod Noting
+pub mod TurnedCores
+pub mod ScriptStays

@@ -1,0 +1,10 @@
+pub mod Machines
+pub mod Laters
+pub mod Seats
+pub mod AtWork
+pub mod Crews
+pub mod Started
+pub mod Joined
+pub mod Ended
+pub mod Splits
+pub mod ScriptWorks
