@@ -1,0 +1,4 @@
+pub mod InHand
+pub mod TurnedCores
+pub mod SeatLogs
+pub mod Crews

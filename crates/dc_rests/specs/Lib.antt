@@ -1,0 +1,3 @@
+pub mod LastPolls
+pub mod Resting
+pub mod Settling
