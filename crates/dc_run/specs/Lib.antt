@@ -1,0 +1,6 @@
+pub mod Rested
+pub mod Going
+pub mod Running
+pub mod Texts
+pub mod Openings
+pub mod Endings
