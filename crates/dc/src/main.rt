@@ -32,5 +32,5 @@ fn main(rt: HostRuntime) -> ExitCode {
     let Ok(mut sink) = OutSink::new(alloc, rt.stdout(), lines_at_once) else {
         return ExitCode::from(NO_MEMORY);
     };
-    ExitCode::from(command(alloc, words.as_slice(), &mut shelf, &mut sink, &Open))
+    ExitCode::from(command(&rt, alloc, words.as_slice(), &mut shelf, &mut sink, &Open))
 }

@@ -4,7 +4,9 @@ use dc_top::{command, gen_call, play_call};
 use std::alloc::{AllocError, Global};
 use std::io::{self, Write};
 use std::process::Abort;
+use std::sync::Wait;
 use std::test::Fail;
+use std::thread::Threads;
 
 // The head of an image of one core and one block.
 const BARE: &str =
@@ -73,7 +75,7 @@ skipped 1
 end
 ";
 
-const USAGE: &str = "usage: dc play IMAGE SCRIPT SCHEDULE | dc gen N\n";
+const USAGE: &str = "usage: dc play IMAGE SCRIPT SCHEDULE | dc run IMAGE SCRIPT | dc gen N\n";
 
 const TRAP_1: &str = "\
 0 core 0 slice 0 0 fired 0 ran 0 trap 1 clock 1
@@ -271,8 +273,8 @@ fn words_of(alloc: Global, line: &str) -> Result<Vec<String>, AllocError> {
 }
 
 // What these words are answered and what is written.
-fn check_command(
-    rt: &impl Abort,
+fn check_command<R: Abort + Threads + Wait + Sync>(
+    rt: &R,
     alloc: Global,
     line: &str,
     status: u8,
@@ -283,7 +285,7 @@ fn check_command(
     let mut shelf = shelf(alloc, image.as_str(), "", THREE_STEPS, 9)?;
     let mut sink = sink(alloc, 99)?;
     assert_eq!(rt;
-        command(alloc, words.as_slice(), &mut shelf, &mut sink, &Open),
+        command(rt, alloc, words.as_slice(), &mut shelf, &mut sink, &Open),
         status,
         "{line}"
     );
@@ -302,6 +304,7 @@ fn words_of_no_form_are_answered_by_the_usage(rt: HostRuntime) -> Result<(), Fai
         "",
         "gen",
         "play image script",
+        "run image",
         "run image script schedule",
         "play image script schedule more",
         "gen 65536",
@@ -359,8 +362,8 @@ impl Write for ShortWriter<'_> {
 }
 
 // What a play over a writer with this room is answered, and how much of the text the writer takes.
-fn check_written(
-    rt: &impl Abort,
+fn check_written<R: Abort + Threads + Wait + Sync>(
+    rt: &R,
     alloc: Global,
     lines_at_once: bool,
     room: usize,
@@ -376,7 +379,7 @@ fn check_written(
     };
     let mut sink = OutSink::new(alloc, out, lines_at_once).map_err(|_| "no memory")?;
     assert_eq!(rt;
-        command(alloc, words.as_slice(), &mut shelf, &mut sink, &Open),
+        command(rt, alloc, words.as_slice(), &mut shelf, &mut sink, &Open),
         status,
         "room {room}"
     );

@@ -6,4 +6,6 @@ mod calls;
 #[cfg(test)]
 mod merging;
 #[cfg(test)]
+mod runs;
+#[cfg(test)]
 mod texts;

@@ -20,7 +20,7 @@ use Rattle.dc_top.specs.declared.halts.Halt.TheVariants as halt
 use Rattle.dc_top.specs.declared.bad_inputs.BadInput.{BadInput}
 use Rattle.dc_top.specs.declared.bad_inputs.BadInput.TheVariants as why
 use Rattle.dc_top.specs.Contents.{Contents, Files, OfFiles}
-use Rattle.dc_top.specs.Calls.{Call, FaultOf, IsPlayStatus, PlayAnswers, verdict, read_fault, write_fault, both_faults, no_memory}
+use Rattle.dc_top.specs.Calls.{Answers, Call, FaultOf, IsPlayStatus, PlayAnswers, verdict, read_fault, write_fault, both_faults, no_memory}
 use Rattle.dc_top.specs.Halts.{Halts, HaltTold, IsReady, verdict_of}
 use Rattle.dc_top.specs.BadInputs.{Verdict, line_of, status_of}
 use Rattle.dc_base.specs.declared.actions.Actor.{Actor}
@@ -31,21 +31,17 @@ pub writes_as : {T : Type 0} (f g : ℕ) (a b : Option (List ℕ)) (status : ℕ
 writes_as f g a b status text (Ok x) w rose = whole w
 writes_as f g a b status text (Err failed) w rose = part rose w
 
-module _ (image script schedule : List ℕ) (bytes : Contents) (call : Call) where
-  abbrev pub V : Verdict
-  V = play_verdict bytes.image bytes.script bytes.schedule
-
-  abbrev pub W : ℕ → List ℕ → ℕ → Type 0
+-- what was written of a verdict, or of a read fault, is the answer
+module _ (IsVerdict : Verdict → Type 0) (IsFault : List ℕ → Type 0) (call : Call) where
+  abbrev W : ℕ → List ℕ → ℕ → Type 0
   W = λ status text result. WritesAs call.sink_faults call.sink_faults_after call.told call.told_after status text result
 
-  verdict_told : (result : ℕ) → W V.status V.text result → PlayAnswers image script schedule bytes call result
-  verdict_told result (whole adds) = verdict adds
-  verdict_told result (part rose prefix) = write_fault rose prefix
+  pub verdict_answers : (v : Verdict) (result : ℕ) → IsVerdict v → W v.status v.text result → Answers IsVerdict IsFault call result
+  verdict_answers v result is (whole adds) = verdict v is adds
+  verdict_answers v result is (part rose prefix) = write_fault v is rose prefix
 
-  pub verdict_answers : (v : Verdict) (result : ℕ) → V ≡ v → W v.status v.text result → PlayAnswers image script schedule bytes call result
-  verdict_answers v result same w = verdict_told result (subst (λ (x : Verdict). W x.status x.text result) (sym same) w)
-
-  pub unread_answers : (name : List ℕ) (result : ℕ) → FaultOf image script schedule bytes name → Rose call.shelf_faults call.shelf_faults_after → W 5 (ended (read_fault_line name)) result → PlayAnswers image script schedule bytes call result
+  pub unread_answers : (name : List ℕ) (result : ℕ) → IsFault name → Rose call.shelf_faults call.shelf_faults_after → W 5 (ended (read_fault_line name)) result →
+      Answers IsVerdict IsFault call result
   unread_answers name result fault rose (whole adds) = read_fault name fault rose adds
   unread_answers name result fault rose (part failed prefix) = both_faults name fault rose failed prefix
 
@@ -94,13 +90,13 @@ module _ (f g : ℕ) (a b : Option (List ℕ)) (text : List ℕ) where
   plays_listed result w = elim (plays_status result w) [ inl is_0 ↦ inl is_0 | inr high ↦ inr (omega (arith, high.0), high.1) ]
 
 -- a file that is refused has a status from 2 to 4
-status_of_file : (r : BadInput) → (1 < status_of r) × (status_of r ≤ 4)
+pub status_of_file : (r : BadInput) → (1 < status_of r) × (status_of r ≤ 4)
 status_of_file (why.Image f) = (omega arith, omega arith)
 status_of_file (why.Script f) = (omega arith, omega arith)
 status_of_file (why.Schedule f) = (omega arith, omega arith)
 
 -- the status of a text, whole or not
-whole_or_6 : (f g : ℕ) (a b : Option (List ℕ)) (status : ℕ) (text : List ℕ) (result : ℕ) → WritesAs f g a b status text result → (result ≡ status) ⊎ ((result ≡ 6) × Rose f g)
+pub whole_or_6 : (f g : ℕ) (a b : Option (List ℕ)) (status : ℕ) (text : List ℕ) (result : ℕ) → WritesAs f g a b status text result → (result ≡ status) ⊎ ((result ≡ 6) × Rose f g)
 whole_or_6 f g a b status text result (whole adds) = inl refl
 whole_or_6 f g a b status text result (part rose prefix) = inr (refl, rose)
 
@@ -130,12 +126,19 @@ module _ (image script schedule : List ℕ) where
   abbrev A : Call → ℕ → Contents → Type 0
   A call result = λ bytes. PlayAnswers image script schedule bytes call result
 
+  -- a verdict, and a read fault, by the bytes
+  abbrev V : Contents → Verdict → Type 0
+  V bytes = λ v. v ≡ play_verdict bytes.image bytes.script bytes.schedule
+
+  abbrev F : Contents → List ℕ → Type 0
+  F bytes = FaultOf image script schedule bytes
+
   ready_answers : (call : Call) (i : Image) (s : List ScriptLine) (a : List (Actor × Action)) (result : ℕ) (bytes : Contents) →
       PlaysAs call.sink_faults call.sink_faults_after call.told call.told_after (play_text i s a) result → IsReady bytes.image bytes.script bytes.schedule i s a → A call result bytes
   ready_answers call i s a result bytes (whole_text adds) ready =
-      verdict_answers image script schedule bytes call (done (play_text i s a)) result (ready_verdict bytes.image bytes.script bytes.schedule i s a ready) (whole adds)
+      verdict_answers (V bytes) (F bytes) call (done (play_text i s a)) result (sym (ready_verdict bytes.image bytes.script bytes.schedule i s a ready)) (whole adds)
   ready_answers call i s a result bytes (part_of_text rose prefix) ready =
-      verdict_answers image script schedule bytes call (done (play_text i s a)) result (ready_verdict bytes.image bytes.script bytes.schedule i s a ready) (part rose prefix)
+      verdict_answers (V bytes) (F bytes) call (done (play_text i s a)) result (sym (ready_verdict bytes.image bytes.script bytes.schedule i s a ready)) (part rose prefix)
   ready_answers call i s a result bytes (no_text same) ready = no_memory same
 
   pub played_answers : (files : Files) (call : Call) (i : Image) (s : List ScriptLine) (a : List (Actor × Action)) (result : ℕ) →
@@ -148,10 +151,10 @@ module _ (image script schedule : List ℕ) where
       HaltTold h call.sink_faults call.sink_faults_after call.told call.told_after result → OfFiles files image script schedule (λ bytes. PlayAnswers image script schedule bytes call result)
   halt_answers files call (halt.Refused r) result e w =
       followed files image script schedule (λ bytes. play_verdict bytes.image bytes.script bytes.schedule ≡ verdict_of r) (A call result)
-      (λ bytes same. verdict_answers image script schedule bytes call (verdict_of r) result same w) e
+      (λ bytes same. verdict_answers (V bytes) (F bytes) call (verdict_of r) result (sym same) w) e
   halt_answers files call (halt.Unread n) result e w =
       followed files image script schedule (λ bytes. FaultOf image script schedule bytes n.now) (A call result)
-      (λ bytes fault. unread_answers image script schedule bytes call n.now result fault e.0 w) e.1
+      (λ bytes fault. unread_answers (V bytes) (F bytes) call n.now result fault e.0 w) e.1
   halt_answers files call halt.Memory result e w =
       followed files image script schedule (λ bytes. Unit {0}) (A call result) (λ bytes u. subst (λ (n : ℕ). PlayAnswers image script schedule bytes call n) (sym w.0) (no_memory w.1))
       (any_files files image script schedule)

@@ -7,13 +7,16 @@ use Rattle.dc_io.specs.Counts.{Rose}
 use Rattle.dc_io.specs.Told.{Adds, AddsPrefix, KeepsBeginning}
 use Rattle.dc_io.proofs.Adding.{adds_and_none}
 use Rattle.dc_play.proofs.Rises.{rose_since}
-use Rattle.dc_top.specs.BadInputs.{usage}
 use Rattle.dc_top.specs.Contents.{Contents, Files}
-use Rattle.dc_top.specs.Calls.{Call, PlayAnswers, TellsPlay, Wrote, verdict, read_fault, write_fault, both_faults, no_memory}
+use Rattle.dc_top.specs.Calls.{Answers, Call, FaultOf, PlayAnswers, TellsPlay, Wrote, verdict, read_fault, write_fault, both_faults, no_memory}
 use Rattle.dc_top.specs.Finished.{WrittenOut, untouched, all_out, end_lost}
-use Rattle.dc_top.specs.Requests.{Request, play, gen, HasStatusOf, IsAnswered, LosesItsEnd, RequestTold}
+use Rattle.dc_top.specs.Requests.{Request, play, run, gen, HasStatusOf, IsAnswered, LosesItsEnd, RequestTold}
 use Rattle.dc_top.specs.Written.{PlaysAs, WritesAs, whole, part, whole_text, part_of_text, no_text}
+use Rattle.dc_top.specs.BadInputs.{Verdict, usage}
+use Rattle.dc_top.specs.RunCalls.{InputFaultOf, RunAnswers, TellsRun}
+use Rattle.dc_top.specs.Verdict.{IsRunVerdict, play_verdict}
 use Rattle.dc_top.proofs.Answers.{followed}
+use Rattle.dc_top.proofs.LoadingInputs.{inputs_followed}
 
 pub usage_status : (f g : ℕ) (a b : Option (List ℕ)) (text : List ℕ) (status : ℕ) → WritesAs f g a b 1 text status → (status ≡ 1) ⊎ (status ≡ 6)
 usage_status f g a b text status (whole adds) = inl refl
@@ -46,6 +49,8 @@ told_still files a b c None still told = told
 told_still files a b c (Some (play i s t)) still told =
     followed files i s t (λ bytes. Wrote a b (TellsPlay bytes.image bytes.script bytes.schedule)) (λ bytes. Wrote a c (TellsPlay bytes.image bytes.script bytes.schedule))
     (λ bytes w. wrote_still a b c (TellsPlay bytes.image bytes.script bytes.schedule) still w) told
+told_still files a b c (Some (run i s)) still told =
+    inputs_followed files i s (λ x y. Wrote a b (TellsRun x y)) (λ x y. Wrote a c (TellsRun x y)) (λ x y w. wrote_still a b c (TellsRun x y) still w) told
 told_still files a b c (Some (gen n)) still told = adds_and_none told still
 
 -- a count that goes on, and bytes told that stay
@@ -68,17 +73,23 @@ module _ (files : Files) (h k f m g : ℕ) (a b c : Option (List ℕ)) where
   Last = record { shelf_faults = h; shelf_faults_after = k; sink_faults = f; sink_faults_after = g; told = a; told_after = c }
 
   module _ (grew : m ≤ g) (still : Adds b c []) where
-    answers_still : (i s t : List ℕ) (bytes : Contents) (result : ℕ) → (result ≡ 7 → ⊥) → PlayAnswers i s t bytes Mid result → PlayAnswers i s t bytes Last result
-    answers_still i s t bytes result other (verdict adds) = verdict (adds_and_none adds still)
-    answers_still i s t bytes result other (read_fault name fault rose adds) = read_fault name fault rose (adds_and_none adds still)
-    answers_still i s t bytes result other (write_fault rose prefix) = write_fault (rose_on f m g rose grew) (prefix_still prefix still)
-    answers_still i s t bytes result other (both_faults name fault rose failed prefix) = both_faults name fault rose (rose_on f m g failed grew) (prefix_still prefix still)
-    answers_still i s t bytes result other (no_memory same) = absurd (other refl)
+    answers_still : (IsVerdict : Verdict → Type 0) (IsFault : List ℕ → Type 0) (result : ℕ) → (result ≡ 7 → ⊥) → Answers IsVerdict IsFault Mid result →
+        Answers IsVerdict IsFault Last result
+    answers_still IsVerdict IsFault result other (verdict v is adds) = verdict v is (adds_and_none adds still)
+    answers_still IsVerdict IsFault result other (read_fault name fault rose adds) = read_fault name fault rose (adds_and_none adds still)
+    answers_still IsVerdict IsFault result other (write_fault v is rose prefix) = write_fault v is (rose_on f m g rose grew) (prefix_still prefix still)
+    answers_still IsVerdict IsFault result other (both_faults name fault rose failed prefix) =
+        both_faults name fault rose (rose_on f m g failed grew) (prefix_still prefix still)
+    answers_still IsVerdict IsFault result other (no_memory same) = absurd (other refl)
 
     request_still : (r : Option Request) (result : ℕ) → (result ≡ 7 → ⊥) → IsAnswered r files Mid result → IsAnswered r files Last result
     request_still None result other x = writes_still f m g a b c grew still 1 (ended usage) result x
     request_still (Some (play i s t)) result other x =
-        followed files i s t (λ bytes. PlayAnswers i s t bytes Mid result) (λ bytes. PlayAnswers i s t bytes Last result) (λ bytes w. answers_still i s t bytes result other w) x
+        followed files i s t (λ bytes. PlayAnswers i s t bytes Mid result) (λ bytes. PlayAnswers i s t bytes Last result)
+        (λ bytes w. answers_still (λ v. v ≡ play_verdict bytes.image bytes.script bytes.schedule) (FaultOf i s t bytes) result other w) x
+    request_still (Some (run i s)) result other x =
+        inputs_followed files i s (λ y z. RunAnswers i s y z Mid result) (λ y z. RunAnswers i s y z Last result)
+        (λ y z w. answers_still (IsRunVerdict y z) (InputFaultOf i s y) result other w) x
     request_still (Some (gen n)) result other x = plays_still f m g a b c grew still (gen_text n) result other x
 
   module _ (r : Option Request) (holds_back : Bool) (status : ℕ) where
@@ -116,6 +127,7 @@ module _ (files : Files) (h k f m g : ℕ) (a b c : Option (List ℕ)) where
     six_listed : (r : Option Request) → HasStatusOf r 6
     six_listed None = inr refl
     six_listed (Some (play i s t)) = inr (omega arith, omega arith)
+    six_listed (Some (run i s)) = (inr (omega arith, omega arith), λ e. omega (arith, e))
     six_listed (Some (gen n)) = inr (omega arith, omega arith)
 
     pub out_listed : (result : ℕ) → HasStatusOf r status → WrittenOut holds_back m g b c status result → HasStatusOf r result

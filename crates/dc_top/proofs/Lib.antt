@@ -2,6 +2,9 @@ mod Answers
 mod Commanding
 mod Headlines
 mod Loading
+mod LoadingInputs
 mod Readings
 mod Requesting
+mod RunHeadlines
+mod Running
 mod Summaries

@@ -73,7 +73,7 @@ pub schedule_serves : (b : Bounds) (files : Files) (name bytes : List ℕ) (a : 
 schedule_serves b files name bytes a read may = record { bytes = bytes; may = may; holds = read }
 
 -- a file may hold something
-any_bytes : (files : Files) (name : List ℕ) → OfFile files name (λ bytes. Unit {0})
+pub any_bytes : (files : Files) (name : List ℕ) → OfFile files name (λ bytes. Unit {0})
 any_bytes None name = record { bytes = []; may = cc; holds = tt }
 any_bytes (Some f) name = record { bytes = f name; may = refl; holds = tt }
 
@@ -82,7 +82,7 @@ image_first : (image script schedule : List ℕ) (v : Verdict) → image_read im
 unfolding play_verdict inputs_read
 image_first image script schedule v e = rw e
 
-both_read : (image script : List ℕ) (i : Image) (s : List ScriptLine) → image_read image ≡ Ok i → script_read (bounds_of i) script ≡ Ok s → inputs_read image script ≡ Ok (record { image = i; script = s })
+pub both_read : (image script : List ℕ) (i : Image) (s : List ScriptLine) → image_read image ≡ Ok i → script_read (bounds_of i) script ≡ Ok s → inputs_read image script ≡ Ok (record { image = i; script = s })
 unfolding inputs_read
 both_read image script i s e g = rw (e, g)
 
@@ -94,9 +94,14 @@ schedule_last : (image script schedule : List ℕ) (i : Image) (s : List ScriptL
 unfolding play_verdict inputs_read
 schedule_last image script schedule i s v e g k = rw (e, g, k)
 
-is_ok : {A : Type 0} (r : Result A Verdict) (x : A) → r ≡ Ok x → IsOk r
+pub is_ok : {A : Type 0} (r : Result A Verdict) (x : A) → r ≡ Ok x → IsOk r
 is_ok (Ok y) x e = cc
 is_ok (Err v) x e = cc
+
+-- the script within the bounds of the image
+pub script_within : (i : Image) (b : Bounds) → b ≡ bounds_of i → (bytes : List ℕ) (r : Result (List ScriptLine) Verdict) → script_read b bytes ≡ r →
+    script_read (bounds_of i) bytes ≡ r
+script_within i b fits bytes r e = ap (λ (x : Bounds). script_read x bytes) (sym fits) ∙ e
 
 module _ (image script schedule : List ℕ) where
   -- what is so of bytes of the image, of the image and the script, and of all three

@@ -1,7 +1,7 @@
 -- What is told where nothing is played.
 use Rattle.std.specs.Prelude.{ℕ, List, [], ◌∷◌, Option, Some, None, codes}
 use Rattle.dc_base.specs.TextWords.{ended}
-use Rattle.dc_base.specs.FaultText.{ImageRefusal, text_fault_line, image_fault_line, usage_line, play_form, gen_form}
+use Rattle.dc_base.specs.FaultText.{ImageRefusal, text_fault_line, image_fault_line, usage_line, play_form, run_form, gen_form}
 use Rattle.dc_image.specs.Faults.{refusal_of}
 use Rattle.dc_top.specs.declared.bad_inputs.BadInput.{BadInput}
 use Rattle.dc_top.specs.declared.bad_inputs.BadInput.TheVariants as why
@@ -16,7 +16,7 @@ abbrev pub told : ℕ → List ℕ → Verdict
 told status line = record { status = status; text = ended line }
 
 abbrev pub usage : List ℕ
-usage = usage_line (play_form ∷ gen_form ∷ [])
+usage = usage_line (play_form ∷ run_form ∷ gen_form ∷ [])
 
 abbrev pub image_line : Option ImageRefusal → List ℕ
 image_line None = []

@@ -16,6 +16,7 @@ use Rattle.dc_base.specs.CoreRuns.{core_run}
 use Rattle.dc_base.specs.Headline.{IsReportedRun}
 use Rattle.dc_io.specs.Counts.{Rose}
 use Rattle.dc_io.specs.Told.{Adds, AddsPrefix}
+use Rattle.dc_top.specs.BadInputs.{Verdict}
 use Rattle.dc_top.specs.Contents.{Contents}
 use Rattle.dc_top.specs.Verdict.{Inputs, bounds_of, play_verdict, inputs_read, image_read, schedule_read}
 
@@ -34,20 +35,23 @@ pub data FaultOf (image script schedule : List ℕ) (bytes : Contents) : List �
   at_script : IsOk (image_read bytes.image) → FaultOf image script schedule bytes script
   at_schedule : IsOk (inputs_read bytes.image bytes.script) → FaultOf image script schedule bytes schedule
 
--- Each status has its cause, and what was written with it, by the names and the bytes of three files.
-pub data PlayAnswers (image script schedule : List ℕ) (bytes : Contents) (call : Call) : ℕ → Type 0 where
+-- Each status has its cause, and what was written with it: a verdict, or that a file could not be read.
+pub data Answers (IsVerdict : Verdict → Type 0) (IsFault : List ℕ → Type 0) (call : Call) : ℕ → Type 0 where
   -- the whole text, or the line of the first file that is refused
-  verdict : Adds call.told call.told_after (play_verdict bytes.image bytes.script bytes.schedule).text →
-      PlayAnswers image script schedule bytes call (play_verdict bytes.image bytes.script bytes.schedule).status
-  read_fault : (name : List ℕ) → FaultOf image script schedule bytes name → Rose call.shelf_faults call.shelf_faults_after →
-      Adds call.told call.told_after (ended (read_fault_line name)) → PlayAnswers image script schedule bytes call 5
+  verdict : (v : Verdict) → IsVerdict v → Adds call.told call.told_after v.text → Answers IsVerdict IsFault call v.status
+  read_fault : (name : List ℕ) → IsFault name → Rose call.shelf_faults call.shelf_faults_after →
+      Adds call.told call.told_after (ended (read_fault_line name)) → Answers IsVerdict IsFault call 5
   -- a part of what belongs to one of the two above
-  write_fault : Rose call.sink_faults call.sink_faults_after →
-      AddsPrefix call.told call.told_after (play_verdict bytes.image bytes.script bytes.schedule).text → PlayAnswers image script schedule bytes call 6
-  both_faults : (name : List ℕ) → FaultOf image script schedule bytes name → Rose call.shelf_faults call.shelf_faults_after →
-      Rose call.sink_faults call.sink_faults_after →
-      AddsPrefix call.told call.told_after (ended (read_fault_line name)) → PlayAnswers image script schedule bytes call 6
-  no_memory : call.told_after ≡ call.told → PlayAnswers image script schedule bytes call 7
+  write_fault : (v : Verdict) → IsVerdict v → Rose call.sink_faults call.sink_faults_after → AddsPrefix call.told call.told_after v.text →
+      Answers IsVerdict IsFault call 6
+  both_faults : (name : List ℕ) → IsFault name → Rose call.shelf_faults call.shelf_faults_after → Rose call.sink_faults call.sink_faults_after →
+      AddsPrefix call.told call.told_after (ended (read_fault_line name)) → Answers IsVerdict IsFault call 6
+  no_memory : call.told_after ≡ call.told → Answers IsVerdict IsFault call 7
+
+-- the verdict of a play of three files, by their names and their bytes
+abbrev pub PlayAnswers : (image script schedule : List ℕ) → Contents → Call → ℕ → Type 0
+PlayAnswers image script schedule bytes call status =
+    Answers (λ v. v ≡ play_verdict bytes.image bytes.script bytes.schedule) (FaultOf image script schedule bytes) call status
 
 -- 0, or 2 to 7
 abbrev pub IsPlayStatus : ℕ → Type 0

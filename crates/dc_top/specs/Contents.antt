@@ -15,6 +15,10 @@ pub record OfFile (files : Files) (name : List ℕ) (P : List ℕ → Type 0) : 
   pub may : MayHold files name bytes
   pub holds : P bytes
 
+-- this is so of bytes that the files of an image and a script may hold
+abbrev pub OfInputs : Files → (image script : List ℕ) → (List ℕ → List ℕ → Type 0) → Type 0
+OfInputs files image script P = OfFile files image (λ i. OfFile files script (λ s. P i s))
+
 -- the bytes of an image, a script and a schedule
 pub record Contents : Type 0 where
   pub image : List ℕ

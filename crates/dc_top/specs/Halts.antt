@@ -13,8 +13,9 @@ use Rattle.dc_top.specs.declared.halts.Halt.{Halt}
 use Rattle.dc_top.specs.declared.halts.Halt.TheVariants as halt
 use Rattle.dc_top.specs.BadInputs.{Verdict, line_of, status_of}
 use Rattle.dc_top.specs.Verdict.{bounds_of, inputs_read, schedule_read, play_verdict}
-use Rattle.dc_top.specs.Contents.{Files, OfFile, OfFiles}
+use Rattle.dc_top.specs.Contents.{Files, OfFile, OfFiles, OfInputs}
 use Rattle.dc_top.specs.Calls.{FaultOf}
+use Rattle.dc_top.specs.RunCalls.{InputFaultOf}
 use Rattle.dc_top.specs.Written.{WritesAs}
 
 abbrev pub verdict_of : BadInput → Verdict
@@ -40,6 +41,12 @@ Halts files image script schedule before now (halt.Unread n) =
     Rose before now × OfFiles files image script schedule (λ bytes. FaultOf image script schedule bytes n.now)
 Halts files image script schedule before now halt.Memory = ⊤
 
+-- why two files are not run: the first that is refused, or one that could not be read, or memory was wanting
+abbrev pub InputHalts : Files → (image script : List ℕ) → (before now : ℕ) → Halt → Type 0
+InputHalts files image script before now (halt.Refused r) = OfInputs files image script (λ i s. inputs_read i s ≡ Err (verdict_of r))
+InputHalts files image script before now (halt.Unread n) = Rose before now × OfInputs files image script (λ i s. InputFaultOf image script i n.now)
+InputHalts files image script before now halt.Memory = ⊤
+
 -- the line of a halt was written with its status; where memory was wanting there is none
 abbrev pub HaltTold : Halt → (faults faults_after : ℕ) → (told told_after : Option (List ℕ)) → ℕ → Type 0
 HaltTold (halt.Refused r) faults faults_after told told_after status = WritesAs faults faults_after told told_after (status_of r) (ended (line_of r)) status
@@ -52,7 +59,11 @@ RefusedBy read (halt.Refused r) = read ≡ Err (verdict_of r)
 RefusedBy read (halt.Unread n) = ⊥
 RefusedBy read halt.Memory = ⊤
 
+-- the image and the script of files that are accepted
+abbrev pub AreInputs : (image script : List ℕ) → Image → List ScriptLine → Type 0
+AreInputs image script i s = inputs_read image script ≡ Ok (record { image = i; script = s })
+
 -- the image, the script and the schedule of files that are accepted
 pub record IsReady (image script schedule : List ℕ) (i : Image) (s : List ScriptLine) (a : List (Actor × Action)) : Type 0 where
-  pub inputs : inputs_read image script ≡ Ok (record { image = i; script = s })
+  pub inputs : AreInputs image script i s
   pub actions : schedule_read (bounds_of i) schedule ≡ Ok a

@@ -4,5 +4,6 @@ pub mod Contents
 pub mod Finished
 pub mod Halts
 pub mod Requests
+pub mod RunCalls
 pub mod Verdict
 pub mod Written

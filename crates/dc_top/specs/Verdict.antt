@@ -1,5 +1,5 @@
--- What `play` answers to the bytes of three files, where nothing fails.
-use Rattle.std.specs.Prelude.{ℕ, List, length, Result, Ok, Err, codes}
+-- What `play` and `run` answer to the bytes of their files, where nothing fails.
+use Rattle.std.specs.Prelude.{◌≡◌, ℕ, List, length, Result, Ok, Err, codes}
 use Rattle.dc_base.specs.declared.images.Image.{Image}
 use Rattle.dc_base.specs.declared.actions.Actor.{Actor}
 use Rattle.dc_base.specs.declared.actions.Action.{Action}
@@ -8,7 +8,7 @@ use Rattle.dc_base.specs.declared.commands.ScriptLine.{ScriptLine}
 use Rattle.dc_base.specs.declared.faults.TextFault.{TextFault}
 use Rattle.dc_base.specs.Results.{◌>>=◌, fault_as}
 use Rattle.dc_base.specs.FaultText.{ImageRefusal, text_fault_line, image_fault_line}
-use Rattle.dc_base.specs.PlayText.{play_text}
+use Rattle.dc_base.specs.PlayText.{IsRunText, play_text}
 use Rattle.dc_base.specs.ScriptText.{script_of, schedule_of}
 use Rattle.dc_image.specs.ImageOf.{image_of}
 use Rattle.dc_top.specs.BadInputs.{Verdict, told}
@@ -58,3 +58,8 @@ inputs_read image script = image_read image >>= (λ i. script_read (bounds_of i)
 unfoldable pub play_verdict : (image script schedule : List ℕ) → Verdict
 play_verdict image script schedule =
     either_verdict (inputs_read image script >>= (λ m. schedule_read (bounds_of m.image) schedule >>= (λ a. Ok (done (play_text m.image m.script a)))))
+
+-- a text that a run of the two files may have, or the line of the first file that is refused
+pub data IsRunVerdict (image script : List ℕ) (v : Verdict) : Type 0 where
+  runs : (m : Inputs) → inputs_read image script ≡ Ok m → v.status ≡ 0 → IsRunText m.image m.script v.text → IsRunVerdict image script v
+  refused : inputs_read image script ≡ Err v → IsRunVerdict image script v

@@ -1,10 +1,15 @@
 -- What was written of a text, with its status.
 use Rattle.std.specs.Prelude.{◌≡◌, ℕ, List, Option, Result, Ok, Err}
+use Rattle.dc_base.specs.declared.commands.ScriptLine.{ScriptLine}
+use Rattle.dc_base.specs.declared.entries.Entry.{Entry}
+use Rattle.dc_base.specs.declared.images.Image.{Image}
+use Rattle.dc_base.specs.PlayText.{IsRunJournal, IsRunText}
 use Rattle.dc_io.specs.declared.sinks.Failed.{Failed}
 use Rattle.dc_io.specs.declared.sinks.Ended.{Ended}
 use Rattle.dc_io.specs.declared.sinks.Ended.TheVariants as ended
 use Rattle.dc_io.specs.Counts.{Rose}
 use Rattle.dc_io.specs.Told.{Adds, AddsPrefix}
+use Rattle.dc_run.specs.Texts.{IsShort, run_text}
 
 -- the status where the text was written whole, and 6 where a put failed
 abbrev pub status_for : {T : Type 0} → Result T Failed → ℕ → ℕ
@@ -27,3 +32,11 @@ pub data PlaysAs (faults faults_after : ℕ) (told told_after : Option (List ℕ
   whole_text : Adds told told_after text → PlaysAs faults faults_after told told_after text 0
   part_of_text : Rose faults faults_after → AddsPrefix told told_after text → PlaysAs faults faults_after told told_after text 6
   no_text : told_after ≡ told → PlaysAs faults faults_after told told_after text 7
+
+-- the text of a run was written with 0, or a part of it, where a put failed, with 6, or nothing, where memory was wanting, with 7
+pub data RunsAs (image : Image) (lines : List ScriptLine) (faults faults_after : ℕ) (told told_after : Option (List ℕ)) : ℕ → Type 0 where
+  whole_run : (journal : List Entry) → IsRunJournal image lines journal → IsShort journal → Adds told told_after (run_text image lines journal) →
+      RunsAs image lines faults faults_after told told_after 0
+  part_of_run : (text : List ℕ) → IsRunText image lines text → Rose faults faults_after → AddsPrefix told told_after text →
+      RunsAs image lines faults faults_after told told_after 6
+  no_run : told_after ≡ told → RunsAs image lines faults faults_after told told_after 7

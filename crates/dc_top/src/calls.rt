@@ -1,4 +1,4 @@
-//! The top calls.
+//! The play of three files.
 
 ghost use Rattle.std.specs.Prelude.{◌≡◌, ◌≤◌};
 ghost use Rattle.dc_base.specs.PlayText.{play_text};
@@ -7,13 +7,11 @@ ghost use Rattle.dc_base.specs.Valid.{IsValid, IsValidScript, IsValidSchedule};
 ghost use Rattle.dc_io.specs.Counts.{Rose};
 ghost use Rattle.dc_top.specs.Contents.{OfFiles};
 ghost use Rattle.dc_top.specs.Calls.{IsPlayStatus, PlayAnswers, TellsPlay, Wrote};
-ghost use Rattle.dc_top.specs.Halts.{HaltTold};
 ghost use Rattle.dc_top.specs.Written.{PlaysAs};
 
-use crate::bad_inputs::{put_bad_input, put_read_fault, status_of};
-use crate::halts::Halt;
 use crate::loads::load_play;
-use crate::statuses::{status_for, status_of_play};
+use crate::statuses::status_of_play;
+use crate::tellings::tell;
 use dc_base::images::Image;
 use dc_both::EitherKernel;
 use dc_headline::every_run_is_reported;
@@ -23,19 +21,6 @@ use dc_ranges::entries_are_in_range;
 use dc_script::{Schedule, Script};
 use dc_spelling::{tickets_are_in_order, what_is_spelled_is_read};
 use std::alloc::Global;
-
-/// Writes why nothing is played, and says the status.
-#[tactic(auto, using(crate::proofs::Answers::writes_as))]
-fn tell<S: Sink>(halt: &Halt<'_>, sink: &mut S) -> u8
-    ensures told { HaltTold halt.now (S.faults sink.old) (S.faults sink.new) (S.told sink.old) (S.told sink.new) result }
-    ensures grows { S.faults sink.old ≤ S.faults sink.new }
-{
-    match halt {
-        Halt::Refused(input) => status_for(put_bad_input(input, sink), status_of(input)),
-        Halt::Unread(name) => status_for(put_read_fault(name, sink), 5),
-        Halt::Memory => 7,
-    }
-}
 
 /// Plays with both kernels, and says the status.
 #[tactic(auto, using(crate::proofs::Answers::plays_as))]

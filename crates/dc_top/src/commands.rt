@@ -11,12 +11,15 @@ ghost use Rattle.dc_top.specs.Written.{WritesAs};
 use crate::calls::play_call;
 use crate::generated::gen_call;
 use crate::requests::{Request, request_of};
+use crate::run_calls::run_call;
 use crate::statuses::status_for;
 use dc_io::{Gate, Shelf, Sink};
 use dc_play::put_text;
 use std::alloc::Global;
+use std::sync::Wait;
+use std::thread::Threads;
 
-const USAGE: &str = "usage: dc play IMAGE SCRIPT SCHEDULE | dc gen N\n";
+const USAGE: &str = "usage: dc play IMAGE SCRIPT SCHEDULE | dc run IMAGE SCRIPT | dc gen N\n";
 
 /// Writes the forms of the command line.
 #[tactic(auto, using(crate::proofs::Answers::writes_as))]
@@ -29,11 +32,13 @@ fn tell_usage<S: Sink>(sink: &mut S) -> u8
 
 /// Carries out a request, or tells the usage where there is none.
 #[tactic(auto, using(crate::proofs::Commanding::usage_status))]
-fn answer<H: Shelf, S: Sink>(
+fn answer<R: Threads + Wait + Sync, H: Shelf, S: Sink, G: Gate>(
+    rt: &R,
     alloc: Global,
     request: Option<Request<'_>>,
     shelf: &mut H,
     sink: &mut S,
+    gate: &G,
 ) -> u8
     ensures headline { result ≡ 0 → RequestTold (H.told shelf.old) (S.told sink.old) (S.told sink.new) (asked request.entry) }
     ensures answers { IsAnswered (asked request.entry) (H.told shelf.old)
@@ -59,6 +64,9 @@ fn answer<H: Shelf, S: Sink>(
                 schedule,
             },
         ) => play_call(alloc, shelf, sink, image, script, schedule),
+        Some(Request::Run { image, script }) => {
+            run_call(rt, alloc, shelf, sink, gate, image, script)
+        }
         Some(Request::Gen(n)) => gen_call(alloc, sink, u32::from(n)),
         None => tell_usage(sink),
     }
@@ -79,15 +87,17 @@ fn write_out<S: Sink>(status: u8, sink: &mut S) -> u8
     }
 }
 
-/// Does what the words of a command line, those behind the program's name, ask for. The forms are `play IMAGE SCRIPT SCHEDULE` and `gen N`; words of another
-/// form are answered by the usage line and 1, and a status of the call else. What the sink holds back is written out at the end; where that fails, the status
-/// is 6, and an end of the text is lost. The gate is for cores that run in threads of their own; no form has these yet.
-pub fn command<H: Shelf, S: Sink, G: Gate>(
+/// Does what the words of a command line, those behind the program's name, ask for. The forms are `play IMAGE SCRIPT SCHEDULE`, `run IMAGE SCRIPT` and
+/// `gen N`; words of another form are answered by the usage line and 1, and a status of the call else. What the sink holds back is written out at the end;
+/// where that fails, the status is 6, and an end of the text is lost. In a run each core passes the gate before each of its rounds. A run may go on for ever;
+/// the other forms return.
+pub fn command<R: Threads + Wait + Sync, H: Shelf, S: Sink, G: Gate>(
+    rt: &R,
     alloc: Global,
     words: &[String],
     shelf: &mut H,
     sink: &mut S,
-    _gate: &G,
+    gate: &G,
 ) -> u8
     // At status 0 the words have a form, and the text written tells a run of the files that they name, or is the summary of the generated input of the number.
     ensures headline { result ≡ 0 → RequestTold (H.told shelf.old) (S.told sink.old) (S.told sink.new) (request_of (map string_bytes words.now)) }
@@ -110,6 +120,6 @@ pub fn command<H: Shelf, S: Sink, G: Gate>(
     // Where something was written, none of it is held back any more.
     ensures written_out { result ≢ 7 → S.unwritten sink.new ≡ [] }
 {
-    let status = answer(alloc, request_of(words), shelf, sink);
+    let status = answer(rt, alloc, request_of(words), shelf, sink, gate);
     write_out(status, sink)
 }

@@ -5,8 +5,8 @@ ghost use Rattle.dc_base.specs.States.{Settings, settings_of};
 ghost use Rattle.dc_base.specs.Limits.{longest_file};
 ghost use Rattle.dc_base.specs.Valid.{IsValid, IsValidScript, IsValidSchedule};
 ghost use Rattle.dc_script.specs.Texts.{AreBounds};
-ghost use Rattle.dc_top.specs.Contents.{MayHold, OfFile, OfFiles};
-ghost use Rattle.dc_top.specs.Halts.{Halts, HaltsAt, IsReady, MissesAt};
+ghost use Rattle.dc_top.specs.Contents.{MayHold, OfFile, OfFiles, OfInputs};
+ghost use Rattle.dc_top.specs.Halts.{AreInputs, Halts, HaltsAt, InputHalts, IsReady, MissesAt};
 ghost use Rattle.dc_top.specs.Verdict.{image_read, script_read, schedule_read};
 ghost use Rattle.dc_top.specs.Verdict as verdict;
 
@@ -109,6 +109,31 @@ fn bounds_of(image: &Image) -> Bounds
         cores: image.cores.len() as u32,
         blocks: image.blocks.len() as u32,
         lines: image.lines,
+    }
+}
+
+/// The image and the script of two files, the script within what the image has.
+#[tactic(auto, using(crate::proofs::LoadingInputs::image_stops))]
+pub fn load_inputs<'a, H: Shelf>(
+    alloc: Global,
+    image: &'a str,
+    script: &'a str,
+    shelf: &mut H,
+) -> Result<(Image, Script), Halt<'a>>
+    ensures ready { IfOk result (λ r. OfInputs (H.told shelf.old) image.now script.now (λ i s. AreInputs i s r.0 r.1)) }
+    ensures valid_image { IfOk result (λ r. IsValid r.0) }
+    ensures valid_script { IfOk result (λ r. IsValidScript (settings_of r.0) r.1) }
+    ensures halts { IfErr result (InputHalts (H.told shelf.old) image.now script.now (H.faults shelf.old) (H.faults shelf.new)) }
+    ensures grows { H.faults shelf.old ≤ H.faults shelf.new }
+{
+    let machine = match load_image(alloc, image, shelf) {
+        Ok(machine) => machine,
+        Err(halt) => return Err(halt),
+    };
+    let bounds = bounds_of(&machine);
+    match load_script(alloc, script, bounds, shelf) {
+        Ok(lines) => Ok((machine, lines)),
+        Err(halt) => Err(halt),
     }
 }
 

@@ -15,6 +15,10 @@ pub enum Request<'a> {
         script: &'a str,
         schedule: &'a str,
     },
+    Run {
+        image: &'a str,
+        script: &'a str,
+    },
     Gen(u16),
 }
 
@@ -53,6 +57,20 @@ fn with_one<'a>(form: &str, first: &'a str) -> Option<Request<'a>>
     }
 }
 
+/// The forms with two words behind the name.
+fn with_two<'a>(form: &str, first: &'a str, second: &'a str) -> Option<Request<'a>>
+    ensures { asked result ≡ spec.request_of (form.now ∷ first.now ∷ second.now ∷ []) }
+{
+    if is_form(form, "run") {
+        Some(Request::Run {
+            image: first,
+            script: second,
+        })
+    } else {
+        None
+    }
+}
+
 /// The forms with three words behind the name.
 fn with_three<'a>(
     form: &str,
@@ -82,7 +100,7 @@ pub fn request_of(words: &[String]) -> Option<Request<'_>>
         [] => None,
         [_] => None,
         [form, first] => with_one(form.as_str(), first.as_str()),
-        [_, _, _] => None,
+        [form, first, second] => with_two(form.as_str(), first.as_str(), second.as_str()),
         [form, first, second, third] => with_three(
             form.as_str(),
             first.as_str(),
