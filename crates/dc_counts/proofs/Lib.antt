@@ -1,0 +1,5 @@
+mod Counted
+mod Tallies
+mod CoreEntries
+mod ScriptEntries
+mod Reached
