@@ -1,5 +1,5 @@
 -- What a run leaves, and its text.
-use Rattle.std.proofs.Common.{◌≡◌, List, [], sym, ap, ◌∙◌, subst, arith}
+use Rattle.std.proofs.Common.{◌≡◌, ◌≤◌, ◌+◌, ◌*◌, ◌^◌, ℕ, List, [], ◌∷◌, length, refl, sym, ap, ◌∙◌, subst, arith}
 use Rattle.std.specs.Prelude.{IsTrue, map}
 use Rattle.std.specs.List.{list_all}
 use Rattle.dc_base.specs.declared.actions.Actor.{Actor}
@@ -57,6 +57,11 @@ room_stays t s u kinds a b room = record {
   consoles = let x = a.consoles in let y = b.consoles in let n = room.consoles in omega (arith, x, y, n);
 }
 
+-- a history has as many entries as its journal
+as_many : (log : Log Entry) → length (entries_in log) ≡ length log
+as_many [] = refl
+as_many (e ∷ log) = ap (λ n. n + 1) (as_many log) ∙ omega arith
+
 module _ (image : Image) (lines : List ScriptLine) where
   abbrev t : Settings
   t = settings_of image
@@ -69,6 +74,8 @@ module _ (image : Image) (lines : List ScriptLine) where
     pub journals : (log : Log Entry) → IsLawfulHistory t start log → IsAnswered (after start log) → AreCoresAtRest (after start log) →
         AreGivenUpAtRest start log → IsRunJournal image lines (entries_in log)
     pub states : (log : Log Entry) → IsLawfulHistory t start log → (core_run image lines (own_schedule lines (entries_in log))).state ≡ after start log
+    pub short : (log : Log Entry) → IsLawfulHistory t start log → length log ≤ 241664 + 5 * length lines
+    pub few : length lines ≤ 4096
     pub lined : (schedule : List (Actor × Action)) → IsTrue (list_all has_line (core_run image lines schedule).journal)
     pub sound : (log : Log Entry) → IsLawfulHistory t start log → IsSound (after start log)
 
@@ -99,6 +106,11 @@ module _ (image : Image) (lines : List ScriptLine) where
           record {
             state = after start h.history;
             lined = subst (λ (es : List Entry). IsTrue (list_all has_line es)) journal.own (known.lined (own_schedule lines r.journal.items));
+            short =
+                let as_long = ap length h.entries ∙ as_many h.history in
+                let short = known.short h.history h.lawful in
+                let few = known.few in
+                omega (arith, as_long, short, few);
             objects_are = h.objects_are;
             room = room_stays t start (after start h.history) kinds (there []) (there h.history) room;
             sound = known.sound h.history h.lawful;

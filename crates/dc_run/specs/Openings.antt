@@ -11,13 +11,13 @@ use Rattle.dc_logs.specs.Rests.{AllOf}
 use Rattle.dc_numbered.specs.Rooms.{HasRoom}
 use Rattle.dc_run.specs.declared.opening.Opening.{Opening}
 
--- the room of a core's log: its slices, idle steps and wakes, five entries for each line of the script, and one more
+-- the room of a core's log: its slices, idle steps and wakes, two entries for each line of the longest script, and one more
 abbrev pub room_of_core : Settings → ℕ
-room_of_core t = t.slices + 5 * longest_script + 1
+room_of_core t = t.slices + 2 * longest_script + 1
 
--- the room of the script's log: six entries for each of its lines, and one more
+-- the room of the script's log: three entries for each line of the longest script, and one more
 abbrev pub room_of_script : ℕ
-room_of_script = 6 * longest_script + 1
+room_of_script = 3 * longest_script + 1
 
 -- it is the stage of the machine of this image and script, with an actor for each core and one for the script
 pub record IsStageOf (image : Image) (lines : List ScriptLine) (st : Staged) : Type 0 where

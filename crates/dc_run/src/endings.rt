@@ -13,6 +13,7 @@ ghost use Rattle.dc_run.specs.Openings.{IsStageOf};
 ghost use Rattle.dc_run.specs.Running.{HasRun};
 
 use dc_both::EitherKernel;
+use dc_counts::histories_are_short;
 use dc_ranges::entries_are_in_range;
 use dc_runs::{histories_keep_sound, lawful_histories_are_run_journals};
 use dc_scene::history_is_of_the_machine;
@@ -28,5 +29,6 @@ pub(crate) fn ended_runs_have_texts()
     histories_keep_sound();
     lawful_histories_are_run_journals();
     entries_are_in_range();
+    histories_are_short();
     history_is_of_the_machine::<EitherKernel>();
 }

@@ -4,9 +4,11 @@
 mod endings;
 mod events;
 mod opening;
+mod rooms;
 mod runs;
 mod stretches;
 mod texts;
 
 pub use events::run_events;
+pub use rooms::logs_have_room;
 pub use runs::run;

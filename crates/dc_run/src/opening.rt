@@ -27,10 +27,10 @@ use dc_sound::the_start_is_sound;
 use dc_stage::{Pass, Stage};
 use std::alloc::Global;
 
-/// Five entries for each line of the longest script.
-const LINE_ENTRIES: u32 = 5 * LONGEST_SCRIPT as u32;
+/// Two entries for each line of the longest script.
+const LINE_ENTRIES: u32 = 2 * LONGEST_SCRIPT as u32;
 
-/// The room of the script's log: six entries for each line, and one more.
+/// The room of the script's log: three entries for each line of the longest script, and one more.
 const SCRIPT_ROOM: u32 = LINE_ENTRIES + LONGEST_SCRIPT as u32 + 1;
 
 /// What the events of a run need: the stage, the seats of all actors, empty lists with room for the threads and the logs; and the emptied lists of the
@@ -86,7 +86,7 @@ fn open_machine(
     }
 }
 
-/// The seats of all actors. A core's log has room for its slices, idle steps and wakes, for five entries for each line of a script, and for one more.
+/// The seats of all actors. A core's log has room for its slices, idle steps and wakes, for two entries for each line of the longest script, and for one more.
 fn seat_actors(
     alloc: Global,
     stage: &Stage<Machine<EitherKernel>>,

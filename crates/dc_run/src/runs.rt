@@ -1,30 +1,19 @@
 //! A whole run.
-ghost use Rattle.std.specs.Prelude.{◌≡◌, ◌≤◌, true};
+ghost use Rattle.std.specs.Prelude.{◌≤◌};
 ghost use Rattle.dc_base.specs.States.{settings_of};
 ghost use Rattle.dc_base.specs.Valid.{IsValid, IsValidScript};
-ghost use Rattle.dc_run.specs.Texts.{IsShort, Runs};
+ghost use Rattle.dc_run.specs.Texts.{Runs};
 
 use crate::endings::ended_runs_have_texts;
 use crate::events::run_events;
 use crate::opening::{Opening, open_run};
 use crate::texts::write_ended;
-use dc_base::entries::Entry;
 use dc_base::images::Image;
 use dc_io::{Ended, Gate, Sink};
 use dc_script::Script;
 use std::alloc::Global;
 use std::sync::Wait;
 use std::thread::Threads;
-
-/// The most entries of a journal, the tickets of which have at most ten digits. No machine within the limits makes so many.
-const MOST_ENTRIES: usize = 10_000_000_000;
-
-/// Whether the ticket of each entry has at most ten digits.
-fn is_short(journal: &[Entry]) -> bool
-    ensures { result ≡ true → IsShort journal.now }
-{
-    journal.len() <= MOST_ENTRIES
-}
 
 /// Runs the machine of an image and a script with a thread for each core, and writes the journal and the report, one line a piece. All memory of the events
 /// is taken before the first of them, and that of the journal before the first line.
@@ -55,9 +44,6 @@ pub fn run<R: Threads + Wait + Sync, S: Sink, G: Gate>(
     let Ok(ended) = run_events(rt, gate, alloc, stage, crew, room, logs) else {
         return Err(Ended::Memory);
     };
-    if !is_short(&ended.journal) {
-        return Err(Ended::Memory);
-    }
     match write_ended(ended, kinds, sink) {
         Ok(()) => Ok(()),
         Err(_) => Err(Ended::Sink),

@@ -9,6 +9,8 @@ returns c image lines st kinds r valid script of opened room ran =
     let known : AreKnown image lines = record {
       journals = λ log. c.lawful_histories_are_run_journals.ensures.journal image lines log valid script;
       states = λ log. c.lawful_histories_are_run_journals.ensures.state image lines log valid script;
+      short = λ log. c.histories_are_short.ensures image lines log valid script;
+      few = script.most;
       lined = λ schedule. c.entries_are_in_range.ensures.lines image lines schedule valid script;
       sound = λ log. c.histories_keep_sound.ensures (settings_of image) start log sound;
     }

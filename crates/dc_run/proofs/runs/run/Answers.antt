@@ -1,7 +1,6 @@
-use Rattle.std.proofs.Common.{ℕ, List, refl, subst}
-use Rattle.dc_base.specs.declared.entries.Entry.{Entry}
+use Rattle.std.proofs.Common.{ℕ, List, subst}
 use Rattle.dc_io.specs.Told.{Adds}
-use Rattle.dc_run.specs.Texts.{IsShort, text_of}
+use Rattle.dc_run.specs.Texts.{text_of}
 use Rattle.dc_run.proofs.runs.run.Goals as goal
 
 pub write_ended-requires-clause-lines : goal.write_ended-requires-clause-lines
@@ -32,7 +31,7 @@ returns-in-Ok-write_ended-clause-runs g c =
     ready.of ready.opened ready.kinds ran.ensures in (
       ran.ended.journal.items,
       has.run,
-      subst (λ (es : List Entry). IsShort es) c.deref.ensures.value (c.if-not-is_short.ensures refl),
+      has.short,
       subst (λ (text : List ℕ). Adds (g.S.Sink.told c.args.sink.now) (g.S.Sink.told c.write_ended.new.sink) text) has.text
           (c.in-Ok-write_ended.ensures.writes has.state has.objects_are),
     )
