@@ -104,6 +104,14 @@ fn file(alloc: Global, name: &[u8], text: &str) -> Result<MemFile, AllocError> {
     })
 }
 
+// An image and a script by these names; the load of this number fails.
+fn shelf(alloc: Global, image: &str, script: &str, failing: u64) -> Result<MemShelf, AllocError> {
+    let mut files = Vec::new(alloc);
+    files.push(file(alloc, b"image", image)?)?;
+    files.push(file(alloc, b"script", script)?)?;
+    Ok(MemShelf::of(files, vec![in alloc; failing]?))
+}
+
 // What a run of these two files writes, where its status is 0.
 fn run_of<R: Abort + Threads + Wait + Sync, G: Gate>(
     rt: &R,
@@ -112,10 +120,7 @@ fn run_of<R: Abort + Threads + Wait + Sync, G: Gate>(
     script: &str,
     gate: &G,
 ) -> Result<MemSink, Fail> {
-    let mut files = Vec::new(alloc);
-    files.push(file(alloc, b"image", image)?)?;
-    files.push(file(alloc, b"script", script)?)?;
-    let mut shelf = MemShelf::of(files, Vec::new(alloc));
+    let mut shelf = shelf(alloc, image, script, 9)?;
     let mut sink = MemSink::with_room(alloc, 1 << 20, Vec::new(alloc)).map_err(|_| "no memory")?;
     assert_eq!(rt;
         run_call(rt, alloc, &mut shelf, &mut sink, gate, "image", "script"),
@@ -226,5 +231,43 @@ fn a_core_that_is_held_comes_last(rt: HostRuntime) -> Result<(), Fail> {
 fn an_await_is_given_up_once_no_core_can_act(rt: HostRuntime) -> Result<(), Fail> {
     let sink = run_of(&rt, rt.alloc(), HELLO, "await 0 1 1\nawait 0 2 1\n", &Open)?;
     assert_eq!(&rt; text_of(&sink)?, MET_AND_UNMET);
+    Ok(())
+}
+
+#[test]
+fn each_load_of_a_run_that_fails_is_told_by_its_file(rt: HostRuntime) -> Result<(), Fail> {
+    let alloc = rt.alloc();
+    for (failing, text) in [(1, "read fault image\n"), (2, "read fault script\n")] {
+        let mut shelf = shelf(alloc, HELLO, "", failing)?;
+        let mut sink = MemSink::with_room(alloc, 4096, Vec::new(alloc)).map_err(|_| "no memory")?;
+        assert_eq!(&rt;
+            run_call(&rt, alloc, &mut shelf, &mut sink, &Open, "image", "script"),
+            5
+        );
+        assert_eq!(&rt; text_of(&sink)?, text);
+    }
+    Ok(())
+}
+
+#[test]
+fn each_put_of_a_run_that_fails_leaves_the_lines_before_it(rt: HostRuntime) -> Result<(), Fail> {
+    let alloc = rt.alloc();
+    let mut left = 0;
+    for failing in 1..12 {
+        let mut shelf = shelf(alloc, HELLO, "await 0 1 1\nawait 0 2 1\n", 9)?;
+        let mut sink = MemSink::with_room(alloc, 4096, vec![in alloc; failing]?).map_err(
+            |_| "no memory",
+        )?;
+        assert_eq!(&rt;
+            run_call(&rt, alloc, &mut shelf, &mut sink, &Open, "image", "script"),
+            6,
+            "put {failing}"
+        );
+        assert!(&rt; MET_AND_UNMET.starts_with(text_of(&sink)?), "put {failing}");
+        assert!(&rt; failing == 1 || sink.bytes().len() > left, "put {failing}");
+        left = sink.bytes().len();
+    }
+    // all but the line `end`
+    assert_eq!(&rt; left.wrapping_add(4), MET_AND_UNMET.len());
     Ok(())
 }
