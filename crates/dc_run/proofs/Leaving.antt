@@ -1,5 +1,5 @@
 -- What a run leaves, and its text.
-use Rattle.std.proofs.Common.{◌≡◌, ◌≤◌, ◌+◌, ◌*◌, ◌^◌, ℕ, List, [], ◌∷◌, length, refl, sym, ap, ◌∙◌, subst, arith}
+use Rattle.std.proofs.Common.{◌≡◌, ◌≤◌, ◌+◌, ◌*◌, ◌^◌, ℕ, suc, List, [], ◌∷◌, length, refl, sym, ap, ◌∙◌, subst, arith}
 use Rattle.std.specs.Prelude.{IsTrue, map}
 use Rattle.std.specs.List.{list_all}
 use Rattle.dc_base.specs.declared.actions.Actor.{Actor}
@@ -60,7 +60,7 @@ room_stays t s u kinds a b room = record {
 -- a history has as many entries as its journal
 as_many : (log : Log Entry) → length (entries_in log) ≡ length log
 as_many [] = refl
-as_many (e ∷ log) = ap (λ n. n + 1) (as_many log) ∙ omega arith
+as_many (e ∷ log) = ap suc (as_many log)
 
 module _ (image : Image) (lines : List ScriptLine) where
   abbrev t : Settings
